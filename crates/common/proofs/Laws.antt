@@ -1,0 +1,4 @@
+pub mod Choice
+pub mod Booleans
+pub mod Lists
+pub mod Refusals

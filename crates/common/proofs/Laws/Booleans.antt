@@ -1,0 +1,47 @@
+-- Tests joined by `&&`, `||`, `not`, and what they say. Names: the connective, then what is taken from it (`-l`, `-r`, `-imp`) or made (`-i`, `imp-`).
+-- Assumes nothing.
+use mathlib.Core.Path.{_≡_, refl}
+use mathlib.Core.Bool.{Bool, true, false, _&&_, _||_, not, cond, false≢true, true≢false}
+use mathlib.Core.List.{List, [], _∷_}
+use borrow.Author.Tests.{not-true}
+
+pub and-l : (a b : Bool) → a && b ≡ true → a ≡ true
+and-l true b e = refl
+and-l false b e = e
+
+pub and-r : (a b : Bool) → a && b ≡ true → b ≡ true
+and-r true b e = e
+and-r false b e = absurd (false≢true e)
+
+pub and-i : {a b : Bool} → a ≡ true → b ≡ true → a && b ≡ true
+and-i p q = rw (p, q) refl
+
+pub not-i : (a : Bool) → a ≡ false → not a ≡ true
+not-i a e = rw e refl
+
+-- an or is an implication
+pub or-imp : (a b : Bool) → a || b ≡ true → a ≡ false → b ≡ true
+or-imp true b e p = absurd (true≢false p)
+or-imp false b e p = e
+
+pub imp-or : (a b : Bool) → (a ≡ false → b ≡ true) → a || b ≡ true
+imp-or true b f = refl
+imp-or false b f = f refl
+
+-- neither
+pub or-none-l : (a b : Bool) → a || b ≡ false → a ≡ false
+or-none-l true b e = e
+or-none-l false b e = refl
+
+pub or-none-r : (a b : Bool) → a || b ≡ false → b ≡ false
+or-none-r true b e = absurd (true≢false e)
+or-none-r false b e = e
+
+-- "not a, or b" is "a implies b"
+pub implies-elim : (a b : Bool) → not a || b ≡ true → a ≡ true → b ≡ true
+implies-elim true b e p = e
+implies-elim false b e p = absurd (false≢true p)
+
+pub implies-i : (a b : Bool) → (a ≡ true → b ≡ true) → not a || b ≡ true
+implies-i true b f = f refl
+implies-i false b f = refl

@@ -1,0 +1,121 @@
+-- The laws of `mapi`, `tab`, `upTo` and `countBelow`: one place at a time, and one turn of a loop.
+-- Assumes nothing.
+use mathlib.Core.Path.{_≡_, refl, sym, ap, _∙_}
+use mathlib.Core.Bool.{Bool, true, false, cond}
+use mathlib.Core.List.{List, [], _∷_}
+use mathlib.Core.Logic.{⊎-elim, _⊎_, inl, inr}
+use Prim.Native.Nat.{ℕ, zero, suc, _+_, _≤_, _<_}
+use native.Mathlib.Nat.{le-of-suc-le-suc, not-suc-le-zero, eq-or-lt-of-le}
+use native.Mathlib.Numerals.{add-one}
+use native.Mathlib.Omega.{arith}
+use native.Mathlib.Decide.{ℕ-discrete, decLt}
+use lib.Dec.{ltb}
+use lib.ListN.{length, getD, set, length-set}
+use lib.Seq.{ext-getD, getD-set-same, getD-set-other}
+use borrow.Author.Tests.{lt-ltb, le-ltb}
+use Rattle.common.specs.Lists.{mapi, tab, upTo, countBelow}
+
+pub split : (k i : ℕ) → (k < i) ⊎ (i ≤ k)
+split k i = elim (decLt k i) [ yes h ↦ inl h | no h ↦ inr (omega arith) ]
+
+pub length-mapi : (f : ℕ → ℕ → ℕ) (l : List ℕ) → length (mapi f l) ≡ length l
+length-mapi f [] = refl
+length-mapi f (x ∷ xs) = ap suc (length-mapi (λ k. f (suc k)) xs)
+
+pub getD-mapi : (f : ℕ → ℕ → ℕ) (l : List ℕ) (k d : ℕ) → k < length l → getD (mapi f l) k d ≡ f k (getD l k d)
+getD-mapi f [] k d h = absurd (not-suc-le-zero h)
+getD-mapi f (x ∷ xs) zero d h = refl
+getD-mapi f (x ∷ xs) (suc k) d h = getD-mapi (λ k. f (suc k)) xs k d (le-of-suc-le-suc h)
+
+pub length-tab : {A : Type 0} (n : ℕ) (f : ℕ → A) → length (tab n f) ≡ n
+length-tab zero f = refl
+length-tab (suc n) f = ap suc (length-tab n (λ k. f (suc k)))
+
+pub getD-tab : {A : Type 0} (n : ℕ) (f : ℕ → A) (k : ℕ) (d : A) → k < n → getD (tab n f) k d ≡ f k
+getD-tab zero f k d h = absurd (not-suc-le-zero h)
+getD-tab (suc n) f zero d h = refl
+getD-tab (suc n) f (suc k) d h = getD-tab n (λ k. f (suc k)) k d (le-of-suc-le-suc h)
+
+-- a table's rule, computed once over all entries, holds at each entry
+pub table-entry : {A : Type 0} (f : ℕ → A) (xs : List A) (d : A) → xs ≡ tab (length xs) f → (k : ℕ) → k < length xs → getD xs k d ≡ f k
+table-entry f xs d e k h = ap (λ (t : List _). getD t k d) e ∙ getD-tab (length xs) f k d h
+
+-- effects that agree on the bytes of a list change it alike
+pub mapi-cong : (f g : ℕ → ℕ → ℕ) (l : List ℕ) → ((k : ℕ) → k < length l → f k (getD l k 0) ≡ g k (getD l k 0)) → mapi f l ≡ mapi g l
+mapi-cong f g l h =
+    ext-getD 0 (mapi f l) (mapi g l) (simp length-mapi)
+    (λ k lt. let b : k < length l = omega (arith, length-mapi f l) in rw (getD-mapi f l k 0 b, getD-mapi g l k 0 b) (h k b))
+
+pub mapi-id : (f : ℕ → ℕ → ℕ) (l : List ℕ) → ((k : ℕ) → k < length l → f k (getD l k 0) ≡ getD l k 0) → mapi f l ≡ l
+mapi-id f l h =
+    ext-getD 0 (mapi f l) l (length-mapi f l)
+    (λ k lt. let b : k < length l = omega (arith, length-mapi f l) in getD-mapi f l k 0 b ∙ h k b)
+
+-- an effect that does not look at the old byte is a table
+pub mapi-tab : (f : ℕ → ℕ) (l : List ℕ) → mapi (λ k x. f k) l ≡ tab (length l) f
+mapi-tab f [] = refl
+mapi-tab f (x ∷ xs) = ap (λ (t : List ℕ). f 0 ∷ t) (mapi-tab (λ k. f (suc k)) xs)
+
+-- a loop over the places lo, lo + 1, .. hi - 1 of a list, one store a turn.
+-- It starts: nothing below lo is to change
+pub loop-start : (f : ℕ → ℕ → ℕ) (l : List ℕ) (lo : ℕ) → ((k x : ℕ) → k < lo → f k x ≡ x) → l ≡ mapi (upTo lo f) l
+loop-start f l lo h =
+    sym (mapi-id (upTo lo f) l (λ k b. ⊎-elim (λ lt. rw (lt-ltb k lo lt) (h k (getD l k 0) lt)) (λ ge. rw (le-ltb k lo ge) refl) (split k lo)))
+
+-- a turn at i
+pub loop-turn : (f : ℕ → ℕ → ℕ) (l a : List ℕ) (i : ℕ) → i < length l → a ≡ mapi (upTo i f) l → set a i (f i (getD a i 0)) ≡ mapi (upTo (i + 1) f) l
+loop-turn f l a i b e =
+    ext-getD 0 (set a i (f i (getD a i 0))) (mapi (upTo (i + 1) f) l)
+    (length-set a i (f i (getD a i 0)) ∙ long ∙ sym (length-mapi (upTo (i + 1) f) l))
+    (λ k lt. at k (omega (arith, length-set a i (f i (getD a i 0)), long)))
+  where
+    long : length a ≡ length l
+    long = ap length e ∙ length-mapi (upTo i f) l
+
+    old : getD a i 0 ≡ getD l i 0
+    old = ap (λ (t : List ℕ). getD t i 0) e ∙ getD-mapi (upTo i f) l i 0 b ∙ rw (le-ltb i i (omega arith)) refl
+
+    here : (k : ℕ) → k < length l → k ≡ i → getD (set a i (f i (getD a i 0))) k 0 ≡ getD (mapi (upTo (i + 1) f) l) k 0
+    here k h q =
+        rw q
+        (getD-set-same a i (f i (getD a i 0)) 0 (omega (arith, long)) ∙ ap (f i) old
+        ∙ sym (getD-mapi (upTo (i + 1) f) l i 0 b ∙ rw (lt-ltb i (i + 1) (omega arith)) refl))
+
+    else : (k : ℕ) → k < length l → (k ≡ i → ⊥) → getD (set a i (f i (getD a i 0))) k 0 ≡ getD (mapi (upTo (i + 1) f) l) k 0
+    else k h q =
+        getD-set-other a i k (f i (getD a i 0)) 0 q ∙ ap (λ (t : List ℕ). getD t k 0) e ∙ getD-mapi (upTo i f) l k 0 h
+        ∙ ⊎-elim (λ lt. rw (lt-ltb k i lt) (sym (getD-mapi (upTo (i + 1) f) l k 0 h ∙ rw (lt-ltb k (i + 1) (omega arith)) refl)))
+        (λ ge. rw (le-ltb k i ge) (sym (getD-mapi (upTo (i + 1) f) l k 0 h ∙ rw (le-ltb k (i + 1) (omega arith)) refl))) (split k i)
+
+    at : (k : ℕ) → k < length l → getD (set a i (f i (getD a i 0))) k 0 ≡ getD (mapi (upTo (i + 1) f) l) k 0
+    at k h = elim (ℕ-discrete k i) [ yes q ↦ here k h q | no q ↦ else k h q ]
+
+-- it ends: nothing from hi on is to change
+pub loop-end : (f : ℕ → ℕ → ℕ) (l a : List ℕ) (hi : ℕ) → ((k x : ℕ) → hi ≤ k → f k x ≡ x) → a ≡ mapi (upTo hi f) l → a ≡ mapi f l
+loop-end f l a hi h e =
+    e ∙ mapi-cong (upTo hi f) f l (λ k b. ⊎-elim (λ lt. rw (lt-ltb k hi lt) refl) (λ ge. rw (le-ltb k hi ge) (sym (h k (getD l k 0) ge))) (split k hi))
+
+-- a loop over a whole list ends
+pub mapi-all : (f : ℕ → ℕ → ℕ) (l : List ℕ) → mapi (upTo (length l) f) l ≡ mapi f l
+mapi-all f l = mapi-cong (upTo (length l) f) f l (λ k b. rw (lt-ltb k (length l) b) refl)
+
+-- one number further
+pub count-turn : (test : ℕ → Bool) (k : ℕ) → countBelow test (k + 1) ≡ countBelow test k + cond (test k) 1 0
+unfolding countBelow
+count-turn test k = rw (add-one k) refl
+
+-- no number below k passes
+pub count-none : (test : ℕ → Bool) (k : ℕ) → ((i : ℕ) → i < k → test i ≡ false) → countBelow test k ≡ 0
+unfolding countBelow
+count-none test zero h = refl
+count-none test (suc k) h = rw (count-none test k (λ i b. h i (omega arith)), h k (omega arith)) refl
+
+-- at most all of them pass
+pub count-le : (test : ℕ → Bool) (k : ℕ) → countBelow test k ≤ k
+unfolding countBelow
+count-le test zero = omega arith
+count-le test (suc k) = omega (arith, count-le test k, step (test k))
+  where
+    step : (t : Bool) → cond t 1 0 ≤ 1
+    step true = omega arith
+    step false = omega arith

@@ -1,0 +1,24 @@
+-- Lists by place: what stands at each index, what becomes of it, and how many indexes pass a test.
+use mathlib.Core.Bool.{Bool, cond}
+use mathlib.Core.List.{List, [], _∷_}
+use Prim.Native.Nat.{ℕ, zero, suc, _+_}
+use lib.Dec.{ltb}
+
+-- each byte x at place k becomes f k x
+abbrev pub mapi : (ℕ → ℕ → ℕ) → List ℕ → List ℕ
+mapi f [] = []
+mapi f (x ∷ xs) = f 0 x ∷ mapi (λ k. f (suc k)) xs
+
+-- the list f 0, f 1, .. of n elements
+abbrev pub tab : {A : Type 0} → ℕ → (ℕ → A) → List A
+tab zero f = []
+tab (suc n) f = f 0 ∷ tab n (λ k. f (suc k))
+
+-- f below place i, and nothing from there on
+abbrev pub upTo : ℕ → (ℕ → ℕ → ℕ) → ℕ → ℕ → ℕ
+upTo i f k x = cond (ltb k i) (f k x) x
+
+-- how many numbers below k pass the test
+unfoldable pub countBelow : (ℕ → Bool) → ℕ → ℕ
+countBelow test zero = 0
+countBelow test (suc k) = countBelow test k + cond (test k) 1 0
