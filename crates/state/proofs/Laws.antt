@@ -1,0 +1,7 @@
+pub mod Answer
+pub mod Chip
+pub mod Protection
+pub mod Soundness
+pub mod Power
+pub mod Time
+pub mod Determined

@@ -1,0 +1,8 @@
+pub mod Chip
+pub mod State
+pub mod Answer
+pub mod Protection
+pub mod Status
+pub mod Soundness
+pub mod Power
+pub mod Time

@@ -1,0 +1,84 @@
+-- "A state is sound when" (01, "State"): clause by clause as a test, and in words.
+use mathlib.Core.Path.{_≡_}
+use mathlib.Core.Bool.{Bool, true, false, _&&_, _||_, not}
+use mathlib.Core.List.{List, [], _∷_}
+use Prim.Native.Nat.{ℕ, _%_, _≤_, _<_}
+use lib.Dec.{leb, ltb, eqb}
+use Rattle.state.specs.declared.State.{State}
+use Rattle.state.specs.Chip.{isKnown}
+use Rattle.state.specs.State.{dataOf}
+use Rattle.state.specs.Protection.{firstProtected}
+
+-- all hold, joined from the left
+abbrev pub allFrom : Bool → List Bool → Bool
+allFrom a [] = a
+allFrom a (b ∷ bs) = allFrom (a && b) bs
+
+abbrev pub allOf : List Bool → Bool
+allOf bs = allFrom true bs
+
+abbrev pub implies : Bool → Bool → Bool
+implies a b = not a || b
+
+-- "BUSY is left above 0"
+abbrev pub isBusy : State → Bool
+isBusy s = ltb 0 (s .left)
+
+abbrev pub registerClauses : State → List Bool
+registerClauses s =
+    isKnown (s .chip)  -- "chip number 8 or 5"
+    ∷ leb (s .bp) 7  -- three bits (ours)
+    ∷ leb (s .left) (dataOf s .chiptime)  -- "left at most 8,000,000 or 1,000,000"
+    ∷ implies (isBusy s) (s .wel)  -- "BUSY .., and then WEL is 1
+    ∷ implies (isBusy s) (not (s .armed))  -- and neither armed
+    ∷ implies (isBusy s) (not (s .down))  -- nor power-down holds"
+    ∷ implies (s .armed) (not (s .down))  -- "armed and power-down never hold together"
+    ∷ implies (s .armed) (dataOf s .ewsr || s .wel)  -- "on the 05PA armed needs WEL 1"
+    ∷ implies (s .tb) (dataOf s .topbottom)  -- "no TB
+    ∷ implies (s .down) (dataOf s .sleeps)  -- or power-down on the 008A"
+    ∷ implies (s .aai) (dataOf s .words)  -- "no AAI on the 05PA"
+    ∷ []
+
+abbrev pub aaiClauses : State → List Bool
+aaiClauses s =
+    (s .aai || eqb (s .next) 0)  -- "Without AAI the next address is 0."
+    ∷ implies (s .aai) (s .wel)  -- "With AAI: WEL 1,
+    ∷ implies (s .aai) (not (s .armed))  -- not armed,
+    ∷ implies (s .aai) (leb (s .left) 7)  -- left at most 7,
+    ∷ implies (s .aai) (eqb (s .next % 2) 0)  -- next even,
+    ∷ implies (s .aai) (leb 2 (s .next))  -- at least 2,
+    ∷ implies (s .aai) (leb (s .next) (firstProtected s))  -- at most the first protected address
+    ∷ implies (s .aai) (isBusy s || ltb (s .next) (firstProtected s))  -- and below it when left is 0."
+    ∷ []
+
+unfoldable pub isSound : State → Bool
+isSound s = allOf (registerClauses s) && allOf (aaiClauses s)
+
+-- ---- the same in words
+
+pub record Busy (s : State) : Type 0 where
+  pub enabled : s .wel ≡ true
+  pub disarmed : s .armed ≡ false
+  pub awake : s .down ≡ false
+
+pub record Running (s : State) : Type 0 where
+  pub enabled : s .wel ≡ true
+  pub disarmed : s .armed ≡ false
+  pub short : s .left ≤ 7
+  pub even : s .next % 2 ≡ 0
+  pub two : 2 ≤ s .next
+  pub upto : s .next ≤ firstProtected s
+  pub goes : s .left ≡ 0 → s .next < firstProtected s
+
+pub record Sound (s : State) : Type 0 where
+  pub known : isKnown (s .chip) ≡ true
+  pub level : s .bp ≤ 7
+  pub timed : s .left ≤ dataOf s .chiptime
+  pub busy : 0 < s .left → Busy s
+  pub apart : s .armed ≡ true → s .down ≡ false
+  pub latched : dataOf s .ewsr ≡ false → s .armed ≡ true → s .wel ≡ true
+  pub topped : s .tb ≡ true → dataOf s .topbottom ≡ true
+  pub sleeper : s .down ≡ true → dataOf s .sleeps ≡ true
+  pub worded : s .aai ≡ true → dataOf s .words ≡ true
+  pub rests : s .aai ≡ false → s .next ≡ 0
+  pub runs : s .aai ≡ true → Running s

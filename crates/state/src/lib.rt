@@ -1,0 +1,50 @@
+// The chip while nothing is sent: its state, soundness, protection, power and time.
+pub mod chip;
+pub mod power;
+pub mod protection;
+pub mod soundness;
+pub mod status;
+pub mod time;
+
+ghost use mathlib.Core.Path.{_≡_};
+ghost use Rattle.state.specs.Answer.{granted, refused};
+
+// BUSY is "left above 0" and no field.
+#[repr(C)]
+pub struct State {
+    // the chip's number: 8 or 5
+    pub chip: u8,
+    // BP2 BP1 BP0 as a number
+    pub bp: u8,
+    pub tb: bool,
+    pub bpl: bool,
+    pub wel: bool,
+    pub aai: bool,
+    // a status write may come next
+    pub armed: bool,
+    // power-down
+    pub down: bool,
+    // microseconds until the write cycle ends
+    pub left: u32,
+    // where AAI goes on
+    pub next: u32,
+}
+
+// A call's answer: 0 and the new state, or the refusal's number and the given one.
+#[repr(C)]
+pub struct Answer {
+    pub number: u32,
+    pub state: State,
+}
+
+pub fn grant(state: State) -> Answer
+    ensures { λ r. ⌜ r ≡ granted state ⌝ }
+{
+    Answer { number: 0, state }
+}
+
+pub fn refuse(number: u32, state: State) -> Answer
+    ensures { λ r. ⌜ r ≡ refused number state ⌝ }
+{
+    Answer { number, state }
+}

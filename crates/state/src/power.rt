@@ -1,0 +1,63 @@
+// A new chip, and a chip powered up again.
+use crate::Answer;
+use crate::State;
+ghost use mathlib.Core.Path.{_≡_};
+ghost use Prim.Native.Nat.{ℕ};
+ghost use Rattle.state.specs.Power.{atRest, newState, newChip, poweredUp, powerUp};
+
+// Nothing going on: only the chip and its protection bits.
+fn at_rest(chip: u8, bp: u8, tb: bool, bpl: bool) -> State
+    ensures { λ r. ⌜ r ≡ atRest chip bp tb bpl ⌝ }
+{
+    State {
+        chip,
+        bp,
+        tb,
+        bpl,
+        wel: false,
+        aai: false,
+        armed: false,
+        down: false,
+        left: 0,
+        next: 0,
+    }
+}
+
+fn new_state(chip: u8) -> State
+    ensures { λ r. ⌜ r ≡ newState chip ⌝ }
+{
+    at_rest(chip, crate::chip::chip_of(chip).newlevel, false, false)
+}
+
+// Make a new chip. Of an unknown number there is none: refusal 1 comes with a new F25L05PA.
+pub fn new_chip(number: u8) -> Answer
+    ensures { λ r. ⌜ r ≡ newChip number ⌝ }
+{
+    if crate::chip::is_known(number) {
+        crate::grant(new_state(number))
+    } else {
+        crate::refuse(1, new_state(5))
+    }
+}
+
+// The state after power-off and power-up.
+pub fn powered_up(s: State) -> State
+    ensures { λ r. ⌜ r ≡ poweredUp s ⌝ }
+{
+    if crate::chip::chip_of(s.chip).keeps {
+        at_rest(s.chip, s.bp, s.tb, s.bpl)
+    } else {
+        new_state(s.chip)
+    }
+}
+
+// Power the chip up again.
+pub fn power_up(s: State) -> Answer
+    ensures { λ r. ⌜ r ≡ powerUp s ⌝ }
+{
+    if crate::soundness::is_sound(s) {
+        crate::grant(powered_up(s))
+    } else {
+        crate::refuse(1, s)
+    }
+}
