@@ -2,3 +2,4 @@ pub mod Choice
 pub mod Booleans
 pub mod Lists
 pub mod Refusals
+pub mod Pairs

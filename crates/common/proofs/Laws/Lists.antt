@@ -36,10 +36,6 @@ getD-tab zero f k d h = absurd (not-suc-le-zero h)
 getD-tab (suc n) f zero d h = refl
 getD-tab (suc n) f (suc k) d h = getD-tab n (λ k. f (suc k)) k d (le-of-suc-le-suc h)
 
--- a table's rule, computed once over all entries, holds at each entry
-pub table-entry : {A : Type 0} (f : ℕ → A) (xs : List A) (d : A) → xs ≡ tab (length xs) f → (k : ℕ) → k < length xs → getD xs k d ≡ f k
-table-entry f xs d e k h = ap (λ (t : List _). getD t k d) e ∙ getD-tab (length xs) f k d h
-
 -- effects that agree on the bytes of a list change it alike
 pub mapi-cong : (f g : ℕ → ℕ → ℕ) (l : List ℕ) → ((k : ℕ) → k < length l → f k (getD l k 0) ≡ g k (getD l k 0)) → mapi f l ≡ mapi g l
 mapi-cong f g l h =

@@ -8,6 +8,7 @@ use native.Mathlib.Omega.{arith}
 use lib.Dec.{leb, ltb, eqb}
 use borrow.Author.Tests.{leb-true, ltb-true, eqb-true, ltb-false, le-leb, lt-ltb, le-ltb, eq-eqb, not-true}
 use Rattle.common.proofs.Laws.Booleans.{and-l, and-r, and-i, not-i, or-imp, imp-or, implies-elim, implies-i}
+use Rattle.common.proofs.Laws.Pairs.{_▹_}
 use Rattle.state.specs.declared.State.{State}
 use Rattle.state.specs.Chip.{isKnown}
 use Rattle.state.specs.State.{dataOf}
@@ -33,11 +34,6 @@ from-each a (b ∷ bs) e k = from-each (a && b) bs (and-i e (k .0)) (k .1)
 
 all-each : (bs : List Bool) → Each bs → allOf bs ≡ true
 all-each bs k = from-each true bs refl k
-
--- a clause before the others
-infixr 5 _▹_
-_▹_ : {A B : Type 0} → A → B → A × B
-a ▹ b = (a, b)
 
 -- ---- from the test to the words
 

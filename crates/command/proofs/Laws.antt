@@ -1,0 +1,4 @@
+pub mod Rows
+pub mod Fits
+pub mod Carries
+pub mod Kept

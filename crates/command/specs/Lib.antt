@@ -1,0 +1,4 @@
+pub mod Command
+pub mod Registers
+pub mod Output
+pub mod Fits

@@ -1,0 +1,7 @@
+pub mod Records
+pub mod Front
+pub mod Places
+pub mod Decode
+pub mod Reader
+pub mod Answers
+pub mod Survey

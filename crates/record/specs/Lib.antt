@@ -1,0 +1,4 @@
+pub mod Record
+pub mod Decode
+pub mod Reader
+pub mod Survey
