@@ -1,0 +1,4 @@
+pub mod Effect
+pub mod Inside
+pub mod Accepted
+pub mod Call
