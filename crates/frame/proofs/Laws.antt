@@ -2,3 +2,11 @@ pub mod Effect
 pub mod Inside
 pub mod Accepted
 pub mod Call
+pub mod Turn
+pub mod Mask
+pub mod Page
+pub mod Bits
+pub mod Cut
+pub mod Array
+pub mod Sound
+pub mod Determined

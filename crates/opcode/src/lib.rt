@@ -1,6 +1,7 @@
 // What each opcode asks for: a table of 256 kinds a chip.
+pub mod f25l008a;
+pub mod f25l05pa;
 pub mod kinds;
-pub mod tables;
 
 ghost use mathlib.Core.Path.{_≡_};
 ghost use Rattle.opcode.specs.Instructions.{instructions008A, instructions05PA, kindIn, kindOf};
@@ -8,13 +9,13 @@ ghost use Rattle.opcode.specs.Instructions.{instructions008A, instructio
 fn kind_008a(op: u8) -> u8
     ensures { λ r. ⌜ r ≡ kindIn instructions008A op ⌝ }
 {
-    tables::KINDS_008A[op as usize]
+    f25l008a::KINDS[op as usize]
 }
 
 fn kind_05pa(op: u8) -> u8
     ensures { λ r. ⌜ r ≡ kindIn instructions05PA op ⌝ }
 {
-    tables::KINDS_05PA[op as usize]
+    f25l05pa::KINDS[op as usize]
 }
 
 // The opcode's kind on the chip of a number.

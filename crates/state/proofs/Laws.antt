@@ -4,4 +4,5 @@ pub mod Protection
 pub mod Soundness
 pub mod Power
 pub mod Time
+pub mod SoundRows
 pub mod Determined

@@ -6,3 +6,4 @@ pub mod Status
 pub mod Soundness
 pub mod Power
 pub mod Time
+pub mod SoundRows

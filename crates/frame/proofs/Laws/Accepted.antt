@@ -1,14 +1,14 @@
--- When a call is accepted, and when it gets which refusal: the numbers in words, and back.
+-- When a call is accepted, and which refusal it gets otherwise: from the number to the reason, and back.
 -- Assumes nothing.
-use mathlib.Core.Path.{_≡_, refl, sym, ap, _∙_}
-use mathlib.Core.Bool.{Bool, true, false, _||_, not, cond, false≢true}
+use mathlib.Core.Path.{_≡_, refl, sym, _∙_}
+use mathlib.Core.Bool.{Bool, true, false, _||_, not, cond}
 use mathlib.Core.List.{List, [], _∷_, _++_}
 use mathlib.Core.Logic.{_⊎_, inl, inr, ⊎-elim}
 use Prim.Native.Nat.{ℕ, _≤_, _<_}
 use native.Mathlib.Omega.{arith}
 use lib.Dec.{ltb, eqb}
 use lib.ListN.{length}
-use borrow.Author.Tests.{not-false, eqb-true, eqb-false, eq-eqb, ne-eqb, ltb-true, ltb-false, lt-ltb, le-ltb}
+use borrow.Author.Tests.{eqb-true, eqb-false, eq-eqb, ne-eqb, ltb-true, ltb-false, lt-ltb, le-ltb}
 use Rattle.common.specs.Refusals.{firstOf}
 use Rattle.common.proofs.Laws.Booleans.{or-none-l, or-none-r, or-imp, imp-or}
 use Rattle.common.proofs.Laws.Choice.{cond-elim, cases}
@@ -29,13 +29,13 @@ pub record Accepted (s : State) (size n out : ℕ) : Type 0 where
   pub short : n ≤ 4101
   pub same : out ≡ n
 
--- each number with its reason: the first that is so
-pub data Numbers (s : State) (size n out : ℕ) : ℕ → Type 0 where
-  accepted : Accepted s size n out → Numbers s size n out 0
-  unsound : isSound s ≡ false → Numbers s size n out 1
-  wrong-array : Sound s → (size ≡ dataOf s .size → ⊥) → Numbers s size n out 2
-  wrong-frame : Sound s → size ≡ dataOf s .size → (n ≡ 0) ⊎ (4101 < n) → Numbers s size n out 3
-  wrong-output : Sound s → size ≡ dataOf s .size → 0 < n → n ≤ 4101 → (out ≡ n → ⊥) → Numbers s size n out 4
+-- why a call gets a number: the first of these that is so
+pub data Reason (s : State) (size n out : ℕ) : ℕ → Type 0 where
+  none : Accepted s size n out → Reason s size n out 0
+  unsound : isSound s ≡ false → Reason s size n out 1
+  wrong-array : Sound s → (size ≡ dataOf s .size → ⊥) → Reason s size n out 2
+  wrong-frame : Sound s → size ≡ dataOf s .size → (n ≡ 0) ⊎ (4101 < n) → Reason s size n out 3
+  wrong-output : Sound s → size ≡ dataOf s .size → 0 < n → n ≤ 4101 → (out ≡ n → ⊥) → Reason s size n out 4
 
 -- a frame's length, as a test and in words
 module _ (n : ℕ) where
@@ -54,11 +54,10 @@ module _ (n : ℕ) where
   length-right h l = rw (ne-eqb n 0 (λ z. omega arith), le-ltb 4101 n l) refl
 
 module _ (s : State) (size n out : ℕ) where
-  -- the number is its reason's
-  pub numbers : Numbers s size n out (frameNumber s size n out)
+  pub number-reason : Reason s size n out (frameNumber s size n out)
   unfolding frameNumber
-  numbers =
-      let P = Numbers s size n out in
+  number-reason =
+      let P = Reason s size n out in
       cases (isSound s)
       (λ a. rw a (let h = sound-of s a in
       cases (eqb size (dataOf s .size))
@@ -66,24 +65,24 @@ module _ (s : State) (size n out : ℕ) where
       cond-elim P (eqb n 0 || ltb 4101 n) (λ c. wrong-frame h z (wrong-length n c))
       (λ c. let l = right-length n c in
       cases (eqb out n)
-      (λ d. rw d (accepted record { sound = h; sized = z; some = l .0; short = l .1; same = eqb-true out n d }))
+      (λ d. rw d (none record { sound = h; sized = z; some = l .0; short = l .1; same = eqb-true out n d }))
       (λ d. rw d (wrong-output h z (l .0) (l .1) (eqb-false out n d))))))
       (λ b. rw b (wrong-array h (eqb-false size (dataOf s .size) b)))))
       (λ a. rw a (unsound a))
 
--- and back: a reason gives its number
-pub number-is : (s : State) (size n out k : ℕ) → Numbers s size n out k → frameNumber s size n out ≡ k
+-- and back
+pub reason-number : (s : State) (size n out k : ℕ) → Reason s size n out k → frameNumber s size n out ≡ k
 unfolding frameNumber
-number-is s size n out _ (accepted a) =
+reason-number s size n out _ (none a) =
     rw (of-sound s (a .sound), eq-eqb size (dataOf s .size) (a .sized), length-right n (a .some) (a .short), eq-eqb out n (a .same)) refl
-number-is s size n out _ (unsound h) = rw h refl
-number-is s size n out _ (wrong-array h z) = rw (of-sound s h, ne-eqb size (dataOf s .size) z) refl
-number-is s size n out _ (wrong-frame h z w) = rw (of-sound s h, eq-eqb size (dataOf s .size) z, length-wrong n w) refl
-number-is s size n out _ (wrong-output h z l m o) =
+reason-number s size n out _ (unsound h) = rw h refl
+reason-number s size n out _ (wrong-array h z) = rw (of-sound s h, ne-eqb size (dataOf s .size) z) refl
+reason-number s size n out _ (wrong-frame h z w) = rw (of-sound s h, eq-eqb size (dataOf s .size) z, length-wrong n w) refl
+reason-number s size n out _ (wrong-output h z l m o) =
     rw (of-sound s h, eq-eqb size (dataOf s .size) z, length-right n l m, ne-eqb out n o) refl
 
-accepted-at : (s : State) (size n out k : ℕ) → Numbers s size n out k → k ≡ 0 → Accepted s size n out
-accepted-at s size n out _ (accepted a) e = a
+accepted-at : (s : State) (size n out k : ℕ) → Reason s size n out k → k ≡ 0 → Accepted s size n out
+accepted-at s size n out _ (none a) e = a
 accepted-at s size n out _ (unsound h) e = absurd (omega (arith, e))
 accepted-at s size n out _ (wrong-array h z) e = absurd (omega (arith, e))
 accepted-at s size n out _ (wrong-frame h z w) e = absurd (omega (arith, e))
@@ -91,10 +90,10 @@ accepted-at s size n out _ (wrong-output h z l m o) e = absurd (omega (arith, e)
 
 module _ (s : State) (size n out : ℕ) where
   pub number-accepted : frameNumber s size n out ≡ 0 → Accepted s size n out
-  number-accepted e = accepted-at s size n out (frameNumber s size n out) (numbers s size n out) e
+  number-accepted e = accepted-at s size n out (frameNumber s size n out) (number-reason s size n out) e
 
   pub accepted-number : Accepted s size n out → frameNumber s size n out ≡ 0
-  accepted-number a = number-is s size n out 0 (accepted a)
+  accepted-number a = reason-number s size n out 0 (none a)
 
 -- ---- an interrupted frame: the frame's own refusals, then the mask's
 
@@ -126,12 +125,19 @@ module _ (s : State) (wp : Bool) (size : ℕ) (f : List ℕ) (out mask : ℕ) wh
   pub cut-number-refused : (frameNumber s size (length f) out ≡ 0 → ⊥) → cutNumber s wp size f out mask ≡ frameNumber s size (length f) out
   cut-number-refused h = cut-number ∙ rw (ne-eqb (frameNumber s size (length f) out) 0 h) refl
 
-  -- 5 exactly when the whole frame would be accepted and the mask has another length
+  -- where the whole frame would be accepted, the mask's length tells
   pub cut-number-masked : Accepted s size (length f) out → mask ≡ maskLength (effectAt s wp f) → cutNumber s wp size f out mask ≡ 0
   cut-number-masked a m = cut-number ∙ rw (accepted-number s size (length f) out a, eq-eqb mask (maskLength (effectAt s wp f)) m) refl
 
   pub cut-number-unmasked : Accepted s size (length f) out → (mask ≡ maskLength (effectAt s wp f) → ⊥) → cutNumber s wp size f out mask ≡ 5
   cut-number-unmasked a m = cut-number ∙ rw (accepted-number s size (length f) out a, ne-eqb mask (maskLength (effectAt s wp f)) m) refl
+
+  -- a mask of the right length is no reason
+  pub cut-number-whole : mask ≡ maskLength (effectAt s wp f) → cutNumber s wp size f out mask ≡ frameNumber s size (length f) out
+  cut-number-whole m =
+      cases (eqb (frameNumber s size (length f) out) 0)
+      (λ t. let z = eqb-true (frameNumber s size (length f) out) 0 t in cut-number-masked (number-accepted s size (length f) out z) m ∙ sym z)
+      (λ t. cut-number-refused (eqb-false (frameNumber s size (length f) out) 0 t))
 
   pub cut-number-accepted : cutNumber s wp size f out mask ≡ 0 → CutAccepted s wp size f out mask
   cut-number-accepted e =
@@ -140,6 +146,3 @@ module _ (s : State) (wp : Bool) (size : ℕ) (f : List ℕ) (out mask : ℕ) wh
       cases (eqb mask (maskLength (effectAt s wp f))) (λ m. record { whole = a; masked = eqb-true _ _ m })
       (λ m. absurd (omega (arith, e, cut-number-unmasked a (eqb-false _ _ m)))))
       (λ t. absurd (eqb-false _ 0 t (sym (cut-number-refused (eqb-false _ 0 t)) ∙ e)))
-
-  pub accepted-cut-number : CutAccepted s wp size f out mask → cutNumber s wp size f out mask ≡ 0
-  accepted-cut-number c = cut-number-masked (c .whole) (c .masked)

@@ -1,14 +1,12 @@
 -- What a refused and what an accepted call leaves: the three columns of its command, or nothing changed.
 -- Assumes nothing.
-use mathlib.Core.Path.{_≡_, refl, sym, _∙_}
-use mathlib.Core.Bool.{Bool, true, false}
+use mathlib.Core.Path.{_≡_, refl}
+use mathlib.Core.Bool.{Bool}
 use mathlib.Core.List.{List}
 use Prim.Native.Nat.{ℕ}
-use lib.Dec.{eqb}
 use lib.ListN.{length}
 use borrow.Author.Tests.{eq-eqb, ne-eqb}
 use Rattle.common.specs.Lists.{mapi}
-use Rattle.common.specs.Refusals.{accepted}
 use Rattle.common.proofs.Laws.Choice.{yes, no}
 use Rattle.state.specs.declared.State.{State}
 use Rattle.state.specs.Answer.{granted, refused}

@@ -1,17 +1,16 @@
 -- An effect byte by byte: all touched addresses lie in its span, and what `changed` and `cut` leave at a touched address and at another one.
 -- Assumes nothing.
-use mathlib.Core.Path.{_≡_, refl, sym, _∙_}
-use mathlib.Core.Bool.{Bool, true, false, cond, false≢true}
+use mathlib.Core.Path.{_≡_, refl}
+use mathlib.Core.Bool.{true, false, false≢true}
 use mathlib.Core.List.{List}
 use Prim.Native.Nat.{ℕ, _+_, _/_, _≤_, _<_}
 use native.Mathlib.Omega.{arith}
 use lib.Dec.{leb, ltb, eqb}
 use lib.ListN.{getD}
-use borrow.Author.Tests.{leb-true, ltb-true, eqb-true}
-use Rattle.common.proofs.Laws.Booleans.{and-l, and-r}
+use borrow.Author.Tests.{leb-true, ltb-true, eqb-true, le-leb, lt-leb, lt-ltb, le-ltb}
+use Rattle.common.proofs.Laws.Booleans.{and-l, and-r, and-i}
 use Rattle.common.proofs.Laws.Choice.{cases}
 use Rattle.common.proofs.Laws.Lists.{count-none}
-use Rattle.frame.specs.declared.effect.Span.{Span}
 use Rattle.frame.specs.declared.effect.Effect.{Effect}
 use Rattle.frame.specs.declared.effect.Effect.the-variants.{Keep, Fill, Program, Round}
 use Rattle.frame.specs.Effect.{within, turn, touches, struck, changed, spanOf}
@@ -19,17 +18,31 @@ use Rattle.frame.specs.Cut.{mixed, maskPlace, cut}
 
 -- ---- the span
 
-pub within-bounds : (a n k : ℕ) → within a n k ≡ true → (a ≤ k) × (k < a + n)
-within-bounds a n k e = (leb-true a k (and-l (leb a k) (ltb k (a + n)) e), ltb-true k (a + n) (and-r (leb a k) (ltb k (a + n)) e))
+module _ (a n k : ℕ) where
+  pub within-bounds : within a n k ≡ true → (a ≤ k) × (k < a + n)
+  within-bounds e = (leb-true a k (and-l (leb a k) (ltb k (a + n)) e), ltb-true k (a + n) (and-r (leb a k) (ltb k (a + n)) e))
+
+  pub within-yes : a ≤ k → k < a + n → within a n k ≡ true
+  within-yes h l = and-i (le-leb a k h) (lt-ltb k (a + n) l)
+
+  pub within-below : k < a → within a n k ≡ false
+  within-below h = rw (lt-leb a k h) refl
+
+  pub within-above : a + n ≤ k → within a n k ≡ false
+  within-above h = rw (le-leb a k (omega arith), le-ltb k (a + n) h) refl
+
+pub round-bounds : (a n k : ℕ) → touches (Round a n) k ≡ true → (k / 256 ≡ a / 256) × (turn a k < n)
+unfolding touches
+round-bounds a n k t =
+    let page = eqb (k / 256) (a / 256) in
+    (eqb-true (k / 256) (a / 256) (and-l page (ltb (turn a k) n) t), ltb-true (turn a k) n (and-r page (ltb (turn a k) n) t))
 
 pub touched-in-span : (e : Effect) (k : ℕ) → touches e k ≡ true → (spanOf e .lo ≤ k) × (k < spanOf e .hi)
 unfolding touches
 touched-in-span Keep k t = absurd (false≢true t)
 touched-in-span (Fill a n) k t = within-bounds a n k t
 touched-in-span (Program a n i) k t = within-bounds a n k t
-touched-in-span (Round a n) k t =
-    let h = eqb-true (k / 256) (a / 256) (and-l (eqb (k / 256) (a / 256)) (ltb (turn a k) n) t) in
-    (omega arith, omega arith)
+touched-in-span (Round a n) k t = let page = round-bounds a n k t .0 in (omega arith, omega arith)
 
 module _ (e : Effect) (k : ℕ) where
   pub untouched-below : k < spanOf e .lo → touches e k ≡ false

@@ -1,6 +1,7 @@
--- The effect of a command that fits the state lies in the array.
+-- The effect of a command that fits the state lies in the array, below the first protected address.
 -- Assumes nothing.
 use Prim.Native.Nat.{ℕ, _+_, _-_, _%_, _≤_}
+use native.Mathlib.Nat.{le-trans}
 use native.Mathlib.Omega.{arith}
 use lib.Dec.{leb}
 use borrow.Author.Tests.{leb-true}
@@ -30,37 +31,43 @@ use Rattle.command.specs.declared.Command.the-variants.{
 use Rattle.command.specs.Fits.{Fits}
 use Rattle.frame.specs.declared.effect.Span.{Span}
 use Rattle.frame.specs.declared.effect.Effect.{Effect}
+use Rattle.frame.specs.declared.effect.Effect.the-variants.{Keep, Fill, Program, Round}
 use Rattle.frame.specs.Effect.{pageEffect, effectOf, spanOf}
 
 pub record Inside (p : Span) (size : ℕ) : Type 0 where
   pub order : p .lo ≤ p .hi
   pub within : p .hi ≤ size
 
-none : (size : ℕ) → Inside (record { lo = 0; hi = 0 }) size
-none size = record { order = omega arith; within = omega arith }
+span-order : (e : Effect) → spanOf e .lo ≤ spanOf e .hi
+span-order Keep = omega arith
+span-order (Fill a n) = omega arith
+span-order (Program a n i) = omega arith
+span-order (Round a n) = omega arith
 
 -- what is protected is whole blocks, so that a page with one free address is free
-page-inside : (s : State) (a n : ℕ) → a + 1 ≤ firstProtected s → Inside (spanOf (pageEffect a n)) (dataOf s .size)
+page-free : (s : State) (a n : ℕ) → a + 1 ≤ firstProtected s → spanOf (pageEffect a n) .hi ≤ firstProtected s
 unfolding pageEffect
-page-inside s a n h =
-    let b = first-border s in
-    cond-elim (λ (e : Effect). Inside (spanOf e) (dataOf s .size)) (leb n (256 - a % 256))
-    (λ t. record { order = omega arith; within = omega (arith, leb-true n (256 - a % 256) t, b .in-size, b .blocks) })
-    (λ _. record { order = omega arith; within = omega (arith, b .in-size, b .blocks) })
+page-free s a n h =
+    cond-elim (λ (e : Effect). spanOf e .hi ≤ firstProtected s) (leb n (256 - a % 256))
+    (λ t. omega (arith, leb-true n (256 - a % 256) t, first-border s .blocks)) (λ _. omega (arith, first-border s .blocks))
+
+-- a command that fits touches nothing protected
+pub effect-free : (s : State) (c : Command) → Fits s c → spanOf (effectOf c) .hi ≤ firstProtected s
+effect-free s Ignored k = omega arith
+effect-free s ReadStatus k = omega arith
+effect-free s (ReadArray a i) k = omega arith
+effect-free s ReadJedec k = omega arith
+effect-free s ReadSignature k = omega arith
+effect-free s (ReadIdentity b) k = omega arith
+effect-free s WriteEnable k = omega arith
+effect-free s WriteDisable k = omega arith
+effect-free s Arm k = omega arith
+effect-free s (WriteStatus b) k = omega arith
+effect-free s (Erase a n t) k = k .1 .0 .free
+effect-free s (ProgramByte a) k = k .1 .free
+effect-free s (ProgramPage a n) k = page-free s a n (k .1 .free)
+effect-free s (ProgramWord a i) k = k .1 .free
+effect-free s Sleep k = omega arith
 
 pub effect-inside : (s : State) (c : Command) → Fits s c → Inside (spanOf (effectOf c)) (dataOf s .size)
-effect-inside s Ignored k = none (dataOf s .size)
-effect-inside s ReadStatus k = none (dataOf s .size)
-effect-inside s (ReadArray a i) k = none (dataOf s .size)
-effect-inside s ReadJedec k = none (dataOf s .size)
-effect-inside s ReadSignature k = none (dataOf s .size)
-effect-inside s (ReadIdentity b) k = none (dataOf s .size)
-effect-inside s WriteEnable k = none (dataOf s .size)
-effect-inside s WriteDisable k = none (dataOf s .size)
-effect-inside s Arm k = none (dataOf s .size)
-effect-inside s (WriteStatus b) k = none (dataOf s .size)
-effect-inside s (Erase a n t) k = record { order = omega arith; within = omega (arith, k .1 .0 .free, first-border s .in-size) }
-effect-inside s (ProgramByte a) k = record { order = omega arith; within = omega (arith, k .1 .free, first-border s .in-size) }
-effect-inside s (ProgramPage a n) k = page-inside s a n (k .1 .free)
-effect-inside s (ProgramWord a i) k = record { order = omega arith; within = omega (arith, k .1 .free, first-border s .in-size) }
-effect-inside s Sleep k = none (dataOf s .size)
+effect-inside s c k = record { order = span-order (effectOf c); within = le-trans (effect-free s c k) (first-border s .in-size) }
