@@ -1,8 +1,8 @@
 -- Lists by place: what stands at each index, what becomes of it, and how many indexes pass a test.
-use mathlib.Core.Bool.{Bool, cond}
+use mathlib.Core.Bool.{Bool, _&&_, cond}
 use mathlib.Core.List.{List, [], _∷_}
 use Prim.Native.Nat.{ℕ, zero, suc, _+_}
-use lib.Dec.{ltb}
+use lib.Dec.{leb, ltb}
 
 -- each byte x at place k becomes f k x
 abbrev pub mapi : (ℕ → ℕ → ℕ) → List ℕ → List ℕ
@@ -17,6 +17,10 @@ tab (suc n) f = f 0 ∷ tab n (λ k. f (suc k))
 -- f below place i, and nothing from there on
 abbrev pub upTo : ℕ → (ℕ → ℕ → ℕ) → ℕ → ℕ → ℕ
 upTo i f k x = cond (ltb k i) (f k x) x
+
+-- f at the places lo up to hi, and nothing elsewhere
+abbrev pub onRun : ℕ → ℕ → (ℕ → ℕ → ℕ) → ℕ → ℕ → ℕ
+onRun lo hi f k x = cond (leb lo k && ltb k hi) (f k x) x
 
 -- how many numbers below k pass the test
 unfoldable pub countBelow : (ℕ → Bool) → ℕ → ℕ

@@ -1,4 +1,6 @@
-// What every layer uses: bytes of a slice, read without a fault at any index.
+// What every layer uses: bytes of a slice, read without a fault at any index, and runs of them.
+pub mod runs;
+
 ghost use mathlib.Core.Path.{_≡_};
 ghost use Prim.Native.Nat.{_-_, _<_};
 ghost use lib.ListN.{getD};

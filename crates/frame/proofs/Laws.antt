@@ -1,5 +1,6 @@
 pub mod Effect
 pub mod Inside
+pub mod Supplied
 pub mod Accepted
 pub mod Call
 pub mod Turn

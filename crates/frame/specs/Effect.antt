@@ -1,10 +1,10 @@
 -- What a command does to the array (01, "Frames"): which addresses it touches, and the byte that each gets.
 use mathlib.Core.Bool.{Bool, true, false, _&&_, cond}
 use mathlib.Core.List.{List}
-use Prim.Native.Nat.{ℕ, _+_, _-_, _*_, _/_, _%_}
+use Prim.Native.Nat.{ℕ, _+_, _-_, _*_, _/_, _%_, _≤_}
 use lib.Bits.{bitAnd}
 use lib.Dec.{leb, ltb, eqb}
-use lib.ListN.{getD}
+use lib.ListN.{getD, length}
 use Rattle.command.specs.declared.Command.{Command}
 use Rattle.command.specs.declared.Command.the-variants.{
   Ignored,
@@ -77,6 +77,13 @@ struck (Round a n) f k x = bitAnd x (getD f (4 + lastFor a n k) 0)
 -- the byte x at address k afterwards
 unfoldable pub changed : Effect → List ℕ → ℕ → ℕ → ℕ
 changed e f k x = cond (touches e k) (struck e f k x) x
+
+-- the frame has the data bytes that go straight up
+abbrev pub Supplied : Effect → List ℕ → Type 0
+Supplied Keep f = Unit {0}
+Supplied (Fill a n) f = Unit {0}
+Supplied (Program a n i) f = i + n ≤ length f
+Supplied (Round a n) f = Unit {0}
 
 -- addresses lo up to hi, among which all touched ones lie
 abbrev pub spanOf : Effect → Span

@@ -6,7 +6,7 @@ ghost use mathlib.Core.Bool.{cond, true, false};
 ghost use Prim.Native.Nat.{_+_, _<_, _≤_};
 ghost use lib.ListN.{length};
 ghost use Rattle.common.specs.Lists.{mapi};
-ghost use Rattle.frame.specs.Effect.{spanOf, touches, struck, changed};
+ghost use Rattle.frame.specs.Effect.{spanOf, touches, struck, changed, Supplied};
 ghost use Rattle.frame.specs.Cut.{mixed, cut};
 
 fn changed_byte(e: Effect, input: &[u8], k: usize, old: u8) -> u8
@@ -20,7 +20,8 @@ fn changed_byte(e: Effect, input: &[u8], k: usize, old: u8) -> u8
     }
 }
 
-pub fn change(array: &mut [u8], e: Effect, input: &[u8])
+// Address by address through the effect's span.
+fn change_each(array: &mut [u8], e: Effect, input: &[u8])
     requires { ⌜ (spanOf e .lo ≤ spanOf e .hi) × (spanOf e .hi ≤ length (now array)) × (length (now array) < 4294967296) ⌝ }
     ensures { λ _. ⌜ now (array .exit) ≡ mapi (changed e (now (input .entry))) (now (array .entry)) ⌝ }
 {
@@ -30,6 +31,30 @@ pub fn change(array: &mut [u8], e: Effect, input: &[u8])
     while k < hi {
         array[k] = changed_byte(e, input, k, array[k]);
         k += 1;
+    }
+}
+
+// Runs of neighbours in one pass, and a page that goes round address by address.
+pub fn change(array: &mut [u8], e: Effect, input: &[u8])
+    requires { ⌜ (spanOf e .lo ≤ spanOf e .hi) × (spanOf e .hi ≤ length (now array)) × (length (now array) < 4294967296) × Supplied e (now input) ⌝ }
+    ensures { λ _. ⌜ now (array .exit) ≡ mapi (changed e (now (input .entry))) (now (array .entry)) ⌝ }
+{
+    match e {
+        Effect::Keep => {}
+        Effect::Fill { start, count } => {
+            let lo = start as usize;
+            common::runs::fill_run(array, lo, lo + count as usize, 0xff);
+        }
+        Effect::Program { start, count, from } => {
+            let lo = start as usize;
+            common::runs::and_run(array, lo, lo + count as usize, input, from as usize);
+        }
+        Effect::Round {
+            address: _,
+            count: _,
+        } => {
+            change_each(array, e, input);
+        }
     }
 }
 

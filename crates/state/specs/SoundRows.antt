@@ -46,33 +46,33 @@ inAai left next = withAai (busy big left) true next
 
 abbrev pub rows : List Row
 rows =
-    row 0 small (atRest 6 0 false false) -- chip number 8 or 5
-    ∷ row 1 (withBits big 7 false false) (withBits big 8 false false) -- BP has three bits
-    ∷ row 2 (busy big 8000000) (busy big 8000001) -- left at most 8,000,000 (008A)
-    ∷ row 2 (busy small 1000000) (busy small 1000001) -- or 1,000,000 (05PA)
-    ∷ row 3 (busy big 7) (withWel (busy big 7) false) -- BUSY, and then WEL is 1
-    ∷ row 4 (busy big 7) (withArmed (busy big 7) true) -- and not armed
-    ∷ row 5 (busy small 7) (withDown (busy small 7) true) -- nor power-down
-    ∷ row 6 (withArmed (withWel small true) true) (withDown (withArmed (withWel small true) true) true) -- armed and power-down
-    ∷ row 7 (withArmed (withWel small true) true) (withArmed small true) -- on the 05PA armed needs WEL 1
-    ∷ row 8 big (withBits big 0 true false) -- no TB on the 008A
-    ∷ row 9 big (withDown big true) -- no power-down on the 008A
-    ∷ row 10 (withWel small true) (withAai (withWel small true) true 2) -- no AAI on the 05PA
-    ∷ row 11 big (withAai big false 2) -- without AAI next is 0
-    ∷ row 12 (inAai 0 2) (withWel (inAai 0 2) false) -- with AAI: WEL 1
-    ∷ row 13 (inAai 0 2) (withArmed (inAai 0 2) true) -- not armed
-    ∷ row 14 (inAai 7 2) (inAai 8 2) -- left at most 7
-    ∷ row 15 (inAai 0 2) (inAai 0 3) -- next even
-    ∷ row 16 (inAai 0 2) (inAai 0 0) -- at least 2
-    ∷ row 17 (inAai 7 0x10_0000) (inAai 7 0x10_0002) -- at most the first protected address
-    ∷ row 18 (inAai 0 0x0f_fffe) (inAai 0 0x10_0000) -- and below it when left is 0
+    row 0 small (atRest 6 0 false false)  -- chip number 8 or 5
+    ∷ row 1 (withBits big 7 false false) (withBits big 8 false false)  -- BP has three bits
+    ∷ row 2 (busy big 8000000) (busy big 8000001)  -- left at most 8,000,000 (008A)
+    ∷ row 2 (busy small 1000000) (busy small 1000001)  -- or 1,000,000 (05PA)
+    ∷ row 3 (busy big 7) (withWel (busy big 7) false)  -- BUSY, and then WEL is 1
+    ∷ row 4 (busy big 7) (withArmed (busy big 7) true)  -- and not armed
+    ∷ row 5 (busy small 7) (withDown (busy small 7) true)  -- nor power-down
+    ∷ row 6 (withArmed (withWel small true) true) (withDown (withArmed (withWel small true) true) true)  -- armed and power-down
+    ∷ row 7 (withArmed (withWel small true) true) (withArmed small true)  -- on the 05PA armed needs WEL 1
+    ∷ row 8 big (withBits big 0 true false)  -- no TB on the 008A
+    ∷ row 9 big (withDown big true)  -- no power-down on the 008A
+    ∷ row 10 (withWel small true) (withAai (withWel small true) true 2)  -- no AAI on the 05PA
+    ∷ row 11 big (withAai big false 2)  -- without AAI next is 0
+    ∷ row 12 (inAai 0 2) (withWel (inAai 0 2) false)  -- with AAI: WEL 1
+    ∷ row 13 (inAai 0 2) (withArmed (inAai 0 2) true)  -- not armed
+    ∷ row 14 (inAai 7 2) (inAai 8 2)  -- left at most 7
+    ∷ row 15 (inAai 0 2) (inAai 0 3)  -- next even
+    ∷ row 16 (inAai 0 2) (inAai 0 0)  -- at least 2
+    ∷ row 17 (inAai 7 0x10_0000) (inAai 7 0x10_0002)  -- at most the first protected address
+    ∷ row 18 (inAai 0 0x0f_fffe) (inAai 0 0x10_0000)  -- and below it when left is 0
     ∷ []
 
 -- sound states that calls reach
 abbrev pub reached : List State
 reached =
-    withArmed (atRest 8 7 false false) true -- 50 on a new 008A: armed with WEL 0
-    ∷ withDown (withWel small true) true -- 06, then B9 on the 05PA: power-down with WEL 1
-    ∷ inAai 0 2 -- AAI that waits for its next word
-    ∷ inAai 7 0x10_0000 -- the last word of the array being programmed
+    withArmed (atRest 8 7 false false) true  -- 50 on a new 008A: armed with WEL 0
+    ∷ withDown (withWel small true) true  -- 06, then B9 on the 05PA: power-down with WEL 1
+    ∷ inAai 0 2  -- AAI that waits for its next word
+    ∷ inAai 7 0x10_0000  -- the last word of the array being programmed
     ∷ []

@@ -1,7 +1,7 @@
 -- The laws of `mapi`, `tab`, `upTo` and `countBelow`: one place at a time, and one turn of a loop.
 -- Assumes nothing.
 use mathlib.Core.Path.{_≡_, refl, sym, ap, _∙_}
-use mathlib.Core.Bool.{Bool, true, false, cond}
+use mathlib.Core.Bool.{Bool, true, false, cond, and-false}
 use mathlib.Core.List.{List, [], _∷_}
 use mathlib.Core.Logic.{⊎-elim, _⊎_, inl, inr}
 use Prim.Native.Nat.{ℕ, zero, suc, _+_, _≤_, _<_}
@@ -9,11 +9,11 @@ use native.Mathlib.Nat.{le-of-suc-le-suc, not-suc-le-zero, eq-or-lt-of-le}
 use native.Mathlib.Numerals.{add-one}
 use native.Mathlib.Omega.{arith}
 use native.Mathlib.Decide.{ℕ-discrete, decLt}
-use lib.Dec.{ltb}
+use lib.Dec.{leb, ltb}
 use lib.ListN.{length, getD, set, length-set}
 use lib.Seq.{ext-getD, getD-set-same, getD-set-other}
-use borrow.Author.Tests.{lt-ltb, le-ltb}
-use Rattle.common.specs.Lists.{mapi, tab, upTo, countBelow}
+use borrow.Author.Tests.{lt-ltb, le-ltb, le-leb, lt-leb}
+use Rattle.common.specs.Lists.{mapi, tab, upTo, onRun, countBelow}
 
 pub split : (k i : ℕ) → (k < i) ⊎ (i ≤ k)
 split k i = elim (decLt k i) [ yes h ↦ inl h | no h ↦ inr (omega arith) ]
@@ -115,3 +115,23 @@ count-le test (suc k) = omega (arith, count-le test k, step (test k))
     step : (t : Bool) → cond t 1 0 ≤ 1
     step true = omega arith
     step false = omega arith
+
+-- ---- a loop over a run of places, one store a turn
+
+module _ (lo hi : ℕ) (f : ℕ → ℕ → ℕ) (l : List ℕ) where
+  run-inside : (k x : ℕ) → lo ≤ k → k < hi → f k x ≡ onRun lo hi f k x
+  run-inside k x a b = rw (le-leb lo k a, lt-ltb k hi b) refl
+
+  pub run-start : l ≡ mapi (upTo lo (onRun lo hi f)) l
+  run-start = loop-start (onRun lo hi f) l lo (λ k x a. rw (lt-leb lo k a) refl)
+
+  pub run-turn : (a : List ℕ) (k v : ℕ) → lo ≤ k → k < hi → hi ≤ length l → v ≡ f k (getD a k 0) → a ≡ mapi (upTo k (onRun lo hi f)) l
+      → set a k v ≡ mapi (upTo (k + 1) (onRun lo hi f)) l
+  run-turn a k v p q h e t =
+      rw (e ∙ run-inside k (getD a k 0) p q) (loop-turn (onRun lo hi f) l a k (omega arith) t)
+
+  pub run-end : (a : List ℕ) (k : ℕ) → hi ≤ k → a ≡ mapi (upTo k (onRun lo hi f)) l → a ≡ mapi (onRun lo hi f) l
+  run-end a k b t = loop-end (onRun lo hi f) l a k (λ j x c. above j x (omega arith)) t
+    where
+      above : (j x : ℕ) → hi ≤ j → onRun lo hi f j x ≡ x
+      above j x d = rw (le-ltb j hi d, and-false (leb lo j)) refl

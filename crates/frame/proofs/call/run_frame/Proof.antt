@@ -11,9 +11,11 @@ use Rattle.command.specs.Command.{commandOf}
 use Rattle.command.specs.Fits.{Fits}
 use Rattle.command.specs.Output.{memory, shownAt}
 use Rattle.command.proofs.Laws.Fits.{fits, next-low}
-use Rattle.frame.specs.Effect.{effectOf, spanOf}
+use Rattle.command.proofs.Laws.Carries.{carries}
+use Rattle.frame.specs.Effect.{effectOf, spanOf, Supplied}
 use Rattle.frame.specs.Call.{frameNumber}
 use Rattle.frame.proofs.Laws.Accepted.{Accepted, number-accepted}
+use Rattle.frame.proofs.Laws.Supplied.{effect-supplied}
 use Rattle.frame.proofs.Laws.Inside.{Inside, effect-inside}
 use Rattle.frame.proofs.Laws.Call.{frame-refused, frame-accepted}
 use borrow.Author.Needs.{needs}
@@ -61,7 +63,10 @@ change-requires c κs =
     let a = p .before .before .before .before .before .args in
     let i : Inside (spanOf (c .effect-of .result)) (dataOf (a .s) .size) =
     rw (c .effect-of .ensures, c .before .before .before .before .before .before .before .command-of .ensures) (effect-inside (a .s) (commandOf (a .s) (a .wp) (a .input .now)) (fit p)) in
-    (i .order, omega (arith, i .within, t .sized), omega (arith, t .sized, regular (a .s .chip) .small))
+    let d : Supplied (c .effect-of .result) (a .input .now) =
+    rw (c .effect-of .ensures, c .before .before .before .before .before .before .before .command-of .ensures)
+    (effect-supplied (a .input .now) (commandOf (a .s) (a .wp) (a .input .now)) (carries (a .s) (a .wp) (a .input .now))) in
+    (i .order, omega (arith, i .within, t .sized), omega (arith, t .sized, regular (a .s .chip) .small), d)
 
 state-after-requires : tie.Need-state-after-requires
 state-after-requires c κs = rw (c .before .before .before .before .before .before .before .before .before .before .command-of .ensures) (fit (c .before .before .before .before .before .before .before .before .before .before .before))

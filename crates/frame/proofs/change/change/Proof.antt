@@ -1,98 +1,103 @@
--- `frame::change::change` meets its contract: below k the array is changed, from k on it is as it was.
+-- `frame::change::change` meets its contract: each arm's run is its effect, address by address.
 -- Assumes nothing.
-use mathlib.Core.Path.{_≡_, refl, sym, ap, _∙_}
-use Prim.Native.Nat.{ℕ, _+_, _-_, _<_, _≤_}
+use mathlib.Core.Path.{refl, sym}
 use native.Mathlib.Omega.{arith}
-use lib.ListN.{length, length-set}
+use Rattle.common.proofs.Laws.Lists.{mapi-id}
+use Rattle.frame.specs.Effect.{touches, struck, changed}
 use borrow.Author.Needs.{needs}
-use Rattle.common.specs.Lists.{mapi, upTo}
-use Rattle.common.proofs.Laws.Lists.{loop-start, loop-turn, loop-end}
-use Rattle.frame.specs.declared.effect.Span.{Span}
-use Rattle.frame.specs.Effect.{spanOf, changed}
-use Rattle.frame.proofs.Laws.Effect.{changed-below, changed-above}
 use Rattle.frame.proofs.change.change.Statement.{statement}
 use Rattle.frame.proofs.change.change.Tie as tie
 
-abbrev Inv-loop : tie.InvT-loop
-Inv-loop array₀ e input hi k₀ array k =
-    (spanOf e .lo ≤ k) × (k ≤ hi) × (hi ≡ spanOf e .hi) × (hi ≤ length array₀) × (length array₀ < 4294967296)
-    × (length array ≡ length array₀) × (array ≡ mapi (upTo k (changed e input)) array₀)
+enum-told : tie.Need-enum-told
+enum-told c = search needs
 
-abbrev μ-loop : tie.MeasureT-loop
-μ-loop array₀ e input hi k₀ array k = hi - k
+enum-known-e : tie.Need-enum-known-e
+enum-known-e c = search needs
 
-abbrev new : tie.Start Inv-loop μ-loop → ℕ → ℕ → ℕ
-new c = changed (c .args .e) (c .args .input .now)
+cast-lo : tie.Need-cast-lo
+cast-lo c = search needs
 
-span-of-requires : tie.Need-span-of-requires Inv-loop μ-loop
-span-of-requires c κs = search needs
+cast-fill-run : tie.Need-cast-fill-run
+cast-fill-run c = search needs
 
-loop-holds : tie.Need-loop-holds Inv-loop μ-loop
-loop-holds c =
-    let a = c .before .before .before in
-    let l = ap (λ (s : Span). s .lo) (c .span-of .ensures) in
-    let h = ap (λ (s : Span). s .hi) (c .span-of .ensures) in (
-      omega arith,
-      omega arith,
-      h,
-      omega arith,
-      a .pre .2,
-      refl,
-      loop-start (new a) (a .args .array .now) _ (λ k x b. changed-below (a .args .e) (a .args .input .now) k x (omega arith)),
-    )
+add-fill-run : tie.Need-add-fill-run
+add-fill-run c = search needs
 
-slice-read-changed-byte : tie.Need-slice-read-changed-byte Inv-loop μ-loop
-slice-read-changed-byte c = search needs
+fill-run-requires : tie.Need-fill-run-requires
+fill-run-requires c κs = let h = rw (c .before .before .e .given .1) at (c .before .before .before .before .before .before .pre) in (omega arith, h .1)
 
-changed-byte-requires : tie.Need-changed-byte-requires Inv-loop μ-loop
-changed-byte-requires c κs = search needs
+enum-known-e-2 : tie.Need-enum-known-e-2
+enum-known-e-2 c = search needs
 
-slice-write-array : tie.Need-slice-write-array Inv-loop μ-loop
-slice-write-array c = search needs
+cast-lo-2 : tie.Need-cast-lo-2
+cast-lo-2 c = search needs
 
-add-k : tie.Need-add-k Inv-loop μ-loop
-add-k c = search needs
+cast-and-run : tie.Need-cast-and-run
+cast-and-run c = search needs
 
-loop-less : tie.Need-loop-less Inv-loop μ-loop
-loop-less c = search needs
+add-and-run : tie.Need-add-and-run
+add-and-run c = search needs
 
-loop-again : tie.Need-loop-again Inv-loop μ-loop
-loop-again c =
-    let p = c .before .before .before in
-    let a = p .before .before .before .before in
-    let i = p .loop .inv in (
-      omega arith,
-      omega arith,
-      i .2,
-      i .3,
-      i .4,
-      simp length-set (i .5),
-      rw (c .changed-byte .ensures) (loop-turn (new a) (a .args .array .now) (p .loop .array) (p .loop .k) (omega arith) (i .6)),
-    )
+cast-and-run-2 : tie.Need-cast-and-run-2
+cast-and-run-2 c = search needs
 
-same-length : tie.Need-same-length Inv-loop μ-loop
-same-length c = c .before .loop .inv .5
+and-run-requires : tie.Need-and-run-requires
+and-run-requires c κs =
+    let h = rw (c .before .before .e2 .given .1) at (c .before .before .before .before .before .before .pre) in
+    (omega arith, h .1, omega (arith, h .3))
 
-returns : tie.Need-returns Inv-loop μ-loop
-returns c =
-    let p = c .before in
-    let a = p .before .before .before .before in
-    loop-end (new a) (a .args .array .now) (p .loop .array) (p .loop .k)
-    (λ k x b. changed-above (a .args .e) (a .args .input .now) k x (omega arith)) (p .loop .inv .6)
+enum-told-2 : tie.Need-enum-told-2
+enum-told-2 c = search needs
+
+change-each-requires : tie.Need-change-each-requires
+change-each-requires c κs = search needs
+
+returns : tie.Need-returns
+unfolding changed touches struck
+returns c = rw (c .enum-told .given .1) (sym (mapi-id _ _ (λ k b. refl)))
+
+same-length : tie.Need-same-length
+same-length c = search needs
+
+returns-2 : tie.Need-returns-2
+unfolding changed touches struck
+returns-2 c = rw (c .before .before .before .before .before .e .given .1) (c .before .before .fill-run .ensures)
+
+same-length-2 : tie.Need-same-length-2
+same-length-2 c = search needs
+
+returns-3 : tie.Need-returns-3
+unfolding changed touches struck
+returns-3 c = rw (c .before .before .before .before .before .e2 .given .1) (c .before .before .and-run .ensures)
+
+same-length-3 : tie.Need-same-length-3
+same-length-3 c = search needs
+
+returns-4 : tie.Need-returns-4
+returns-4 c = search needs
 
 pub change-spec : {M : Type 1} → statement M
 change-spec =
     tie.close
     (tie.spec
-    Inv-loop
-    μ-loop
-    span-of-requires
-    loop-holds
-    slice-read-changed-byte
-    changed-byte-requires
-    slice-write-array
-    add-k
-    loop-less
-    loop-again
+    enum-told
+    enum-known-e
+    cast-lo
+    cast-fill-run
+    add-fill-run
+    fill-run-requires
+    enum-known-e-2
+    cast-lo-2
+    cast-and-run
+    add-and-run
+    cast-and-run-2
+    and-run-requires
+    enum-told-2
+    change-each-requires
+    returns
     same-length
-    returns)
+    returns-2
+    same-length-2
+    returns-3
+    same-length-3
+    returns-4)

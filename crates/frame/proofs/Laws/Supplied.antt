@@ -1,0 +1,47 @@
+-- A frame has the data bytes that its command's effect programs.
+-- Assumes nothing.
+use mathlib.Core.Path.{_≡_}
+use mathlib.Core.List.{List}
+use Prim.Native.Nat.{ℕ, _-_, _%_}
+use native.Mathlib.Omega.{arith}
+use lib.Dec.{leb}
+use Rattle.common.proofs.Laws.Choice.{cond-elim}
+use Rattle.command.specs.declared.Command.{Command}
+use Rattle.command.specs.declared.Command.the-variants.{
+  Ignored,
+  ReadStatus,
+  ReadArray,
+  ReadJedec,
+  ReadSignature,
+  ReadIdentity,
+  WriteEnable,
+  WriteDisable,
+  Arm,
+  WriteStatus,
+  Erase,
+  ProgramByte,
+  ProgramPage,
+  ProgramWord,
+  Sleep,
+}
+use Rattle.command.specs.Fits.{Carries}
+use Rattle.frame.specs.declared.effect.Effect.{Effect}
+use Rattle.frame.specs.Effect.{pageEffect, effectOf, Supplied}
+
+pub effect-supplied : (f : List ℕ) (c : Command) → Carries f c → Supplied (effectOf c) f
+unfolding pageEffect
+effect-supplied f Ignored h = tt
+effect-supplied f ReadStatus h = tt
+effect-supplied f (ReadArray a i) h = tt
+effect-supplied f ReadJedec h = tt
+effect-supplied f ReadSignature h = tt
+effect-supplied f (ReadIdentity b) h = tt
+effect-supplied f WriteEnable h = tt
+effect-supplied f WriteDisable h = tt
+effect-supplied f Arm h = tt
+effect-supplied f (WriteStatus b) h = tt
+effect-supplied f (Erase a n t) h = tt
+effect-supplied f (ProgramByte a) h = omega (arith, h)
+effect-supplied f (ProgramPage a n) h = cond-elim (λ (e : Effect). Supplied e f) (leb n (256 - a % 256)) (λ _. omega (arith, h)) (λ _. tt)
+effect-supplied f (ProgramWord a i) h = omega (arith, h)
+effect-supplied f Sleep h = tt
