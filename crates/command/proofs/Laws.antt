@@ -2,3 +2,4 @@ pub mod Rows
 pub mod Fits
 pub mod Carries
 pub mod Kept
+pub mod Output

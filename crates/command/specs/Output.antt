@@ -33,6 +33,10 @@ memory array k = getD array k 0
 abbrev pub since : ℕ → ℕ → ℕ → ℕ
 since n i x = cond (ltb i n) 255 x
 
+-- "array from the address up, wrapping at the top", after so many silent bytes
+abbrev pub readAt : ℕ → ℕ → ℕ → (ℕ → ℕ) → ℕ → ℕ
+readAt size address silent m i = since silent i (m ((address + (i - silent)) % size))
+
 -- "bytes 1 to 3: JEDEC, then FF (ours)"
 abbrev pub jedec : State → ℕ → ℕ
 jedec s i = cond (eqb i 1) 0x8c (cond (eqb i 2) (dataOf s .family) (cond (eqb i 3) (dataOf s .capacity) 255))
@@ -44,7 +48,7 @@ identity s odd i = cond (eqb (i % 2) 0) (cond odd (dataOf s .signature) 0x8c) (c
 unfoldable pub shownAt : State → Command → (ℕ → ℕ) → ℕ → ℕ
 shownAt s Ignored m i = 255
 shownAt s ReadStatus m i = since 1 i (statusOf s)
-shownAt s (ReadArray a n) m i = since n i (m ((a + (i - n)) % (dataOf s .size)))
+shownAt s (ReadArray a n) m i = readAt (dataOf s .size) a n m i
 shownAt s ReadJedec m i = jedec s i
 shownAt s ReadSignature m i = since (dataOf s .preamble) i (dataOf s .signature)
 shownAt s (ReadIdentity odd) m i = since 4 i (identity s odd i)

@@ -2,15 +2,16 @@
 use crate::Command;
 use state::State;
 ghost use mathlib.Core.Path.{_≡_};
-ghost use Prim.Native.Nat.{_+_, _-_, _%_, _<_, _≤_};
+ghost use Prim.Native.Nat.{_+_, _-_, _%_, _<_, _≤_, min};
 ghost use lib.ListN.{length};
 ghost use Rattle.common.specs.Lists.{tab};
 ghost use Rattle.state.specs.State.{dataOf};
-ghost use Rattle.command.specs.Output.{memory, since, jedec, identity, shownAt};
+ghost use Rattle.command.specs.Output.{memory, since, readAt, jedec, identity, shownAt};
+ghost use Rattle.command.specs.Fits.{Fits};
 
 fn array_byte(s: State, array: &[u8], from: u32, at: u8, i: usize) -> u8
     requires { ⌜ i < 4102 ⌝ }
-    ensures { λ r. ⌜ r ≡ since at i (memory (now (array .entry)) ((from + (i - at)) % (dataOf s .size))) ⌝ }
+    ensures { λ r. ⌜ r ≡ readAt (dataOf s .size) from at (memory (now (array .entry))) i ⌝ }
 {
     let n = at as usize;
     if i < n {
@@ -74,8 +75,8 @@ fn shown_at(s: State, c: Command, array: &[u8], i: usize) -> u8
     }
 }
 
-// The whole output.
-pub fn emit(s: State, c: Command, array: &[u8], output: &mut [u8])
+// Byte by byte.
+fn show_each(s: State, c: Command, array: &[u8], output: &mut [u8])
     requires { ⌜ length (now output) ≤ 4101 ⌝ }
     ensures { λ _. ⌜ now (output .exit) ≡ tab (length (now (output .entry))) (shownAt s c (memory (now (array .entry)))) ⌝ }
 {
@@ -83,5 +84,41 @@ pub fn emit(s: State, c: Command, array: &[u8], output: &mut [u8])
     while i < output.len() {
         output[i] = shown_at(s, c, array, i);
         i += 1;
+    }
+}
+
+fn smaller(a: usize, b: usize) -> usize
+    ensures { λ r. ⌜ r ≡ min a b ⌝ }
+{
+    if a < b { a } else { b }
+}
+
+// The array from an address up, after `at` silent bytes: to the top in one run, and on from address 0 in another.
+fn show_array(s: State, from: u32, at: u8, array: &[u8], output: &mut [u8])
+    requires { ⌜ (from < dataOf s .size) × (length (now array) ≡ dataOf s .size) × (length (now output) ≤ 4101) ⌝ }
+    ensures { λ _. ⌜ now (output .exit) ≡ tab (length (now (output .entry))) (readAt (dataOf s .size) from at (memory (now (array .entry)))) ⌝ }
+{
+    let size = array.len();
+    let count = output.len();
+    let start = from as usize;
+    let head = smaller(at as usize, count);
+    common::runs::fill_run(output, 0, head, 0xff);
+    let top = head + smaller(count - head, size - start);
+    common::runs::copy_run(output, head, top, array, start);
+    common::runs::copy_run(output, top, count, array, 0);
+}
+
+// The whole output.
+pub fn emit(s: State, c: Command, array: &[u8], output: &mut [u8])
+    requires { ⌜ Fits s c × (length (now array) ≡ dataOf s .size) × (length (now output) ≤ 4101) ⌝ }
+    ensures { λ _. ⌜ now (output .exit) ≡ tab (length (now (output .entry))) (shownAt s c (memory (now (array .entry)))) ⌝ }
+{
+    match c {
+        Command::ReadArray { from, at } => {
+            show_array(s, from, at, array, output);
+        }
+        _ => {
+            show_each(s, c, array, output);
+        }
     }
 }

@@ -69,7 +69,10 @@ returns-2 c =
     rw (c .refuse2 .ensures, ← q) (cut-refused (a .s) (a .wp) (a .array .now) (a .input .now) (a .output .now) (a .mask .now) (λ z. let n = sym q ∙ z in omega arith))
 
 emit-requires : tie.Need-emit-requires
-emit-requires c κs = let t = took (c .before .before .before .before .before .before) in omega (arith, t .short, t .same)
+emit-requires c κs =
+    let p = c .before .before .before .before .before .before in
+    let t = took p in
+    (rw (c .before .before .before .before .before .command-of .ensures) (fit p), t .sized, omega (arith, t .short, t .same))
 
 cut-change-requires : tie.Need-cut-change-requires
 cut-change-requires c κs =

@@ -51,7 +51,10 @@ command-of-requires : tie.Need-command-of-requires
 command-of-requires c κs = (next-low _ (took c .sound), took c .short)
 
 emit-requires : tie.Need-emit-requires
-emit-requires c κs = let t = took (c .before .before .before) in omega (arith, t .short, t .same)
+emit-requires c κs =
+    let p = c .before .before .before in
+    let t = took p in
+    (rw (c .before .before .command-of .ensures) (fit p), t .sized, omega (arith, t .short, t .same))
 
 effect-of-requires : tie.Need-effect-of-requires
 effect-of-requires c κs = search needs
