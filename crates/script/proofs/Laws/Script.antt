@@ -16,7 +16,7 @@ use Rattle.frame.specs.Call.{frameNumber}
 use Rattle.script.specs.declared.Ran.{Ran}
 use Rattle.script.specs.Run.{Device, device, run}
 use Rattle.script.specs.Script.{recordsIn, recordsOf, scriptNumber, ranRecords, refusedRun, scriptAnswer, scriptArray, scriptOutput, ScriptRun, RecordsRun}
-use Rattle.script.proofs.Laws.Numbers.{Accepted}
+use Rattle.script.proofs.Laws.Accepted.{Accepted}
 use Rattle.script.proofs.Laws.Run.{run-sound, frame-among-taken}
 
 module _ (s : State) (wp : Bool) (array script output : List ℕ) where

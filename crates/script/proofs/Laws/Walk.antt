@@ -20,7 +20,7 @@ use Rattle.frame.specs.Call.{frameNumber, FrameRun}
 use Rattle.frame.proofs.Laws.Call.{frame-accepted}
 use Rattle.script.specs.Run.{Device, device, step, outputOf, run, outputs}
 use Rattle.script.specs.Script.{recordsOf}
-use Rattle.script.proofs.Laws.Numbers.{Accepted}
+use Rattle.script.proofs.Laws.Accepted.{Accepted}
 use Rattle.script.proofs.Laws.Run.{Ready, run-array-length, frame-output-length, run-ready, frame-taken}
 
 -- from the device that it began with, with room for so many bytes of output, of which the first `laid` are laid

@@ -3,7 +3,7 @@
 use mathlib.Core.Path.{_≡_, sym, _∙_}
 use lib.ListN.{length}
 use Rattle.script.specs.Script.{scriptNumber}
-use Rattle.script.proofs.Laws.Numbers.{number-accepted, number-surveyed, counts-surveyed}
+use Rattle.script.proofs.Laws.Accepted.{number-accepted, number-surveyed, counts-surveyed}
 use Rattle.script.proofs.Laws.Script.{script-refused, script-accepted}
 use borrow.Author.Needs.{needs}
 use Rattle.script.proofs.run_script.Statement.{statement}

@@ -88,8 +88,8 @@ loop-again c =
     let k = p .loop .k in
     let x = getD (p .loop .array) k 0 in
     let e : c .before .before .cut-byte .result ≡ new a k x =
-    rw (c .before .before .before .byte-at .ensures) at (c .before .before .cut-byte .ensures)
-    ∙ cut-at (a .args .e) (a .args .input .now) (a .args .mask .now) k x (p .loop .place) (i .7) in
+    rw (c .before .before .before .byte-at .ensures, cut-at (a .args .e) (a .args .input .now) (a .args .mask .now) k x (p .loop .place) (i .7))
+    at (c .before .before .cut-byte .ensures) in
     let t : c .one-if .result ≡ cond (touches (a .args .e) k) 1 0 = rw (c .before .is-touched .ensures) at (c .one-if .ensures .0) in (
       omega arith,
       omega arith,

@@ -13,7 +13,7 @@ use Rattle.record.specs.Record.{wait}
 use Rattle.record.proofs.Laws.Records.{all-bytes}
 use Rattle.record.proofs.Laws.Answers.{Stands, FrameTold, EndTold, Told, answer-told}
 use Rattle.script.specs.Run.{device}
-use Rattle.script.proofs.Laws.Numbers.{number-accepted}
+use Rattle.script.proofs.Laws.Accepted.{number-accepted}
 use Rattle.script.proofs.Laws.Walk.{Walked, walk-start, frame-room, walk-frame, walk-wait, walk-end, walk-checked}
 use borrow.Author.Needs.{needs}
 use Rattle.script.proofs.run.run_records.Statement.{statement}

@@ -30,47 +30,46 @@ pub record Accepted (s : State) (size : ℕ) (script : List ℕ) (out : ℕ) : T
   pub decoded : decode script ≡ records list
   pub same : out ≡ outputLength list
 
--- each number with its reason: the first that is so
-pub data Numbers (s : State) (size : ℕ) (script : List ℕ) (out : ℕ) : ℕ → Type 0 where
-  accepted : Accepted s size script out → Numbers s size script out 0
-  unsound : isSound s ≡ false → Numbers s size script out 1
-  wrong-array : Sound s → (size ≡ dataOf s .size → ⊥) → Numbers s size script out 2
-  too-long : Sound s → size ≡ dataOf s .size → longestScript < length script → Numbers s size script out 11
+-- why a script gets a number: the first of these that is so
+pub data Reason (s : State) (size : ℕ) (script : List ℕ) (out : ℕ) : ℕ → Type 0 where
+  none : Accepted s size script out → Reason s size script out 0
+  unsound : isSound s ≡ false → Reason s size script out 1
+  wrong-array : Sound s → (size ≡ dataOf s .size → ⊥) → Reason s size script out 2
+  too-long : Sound s → size ≡ dataOf s .size → longestScript < length script → Reason s size script out 11
   bad-record : Sound s → size ≡ dataOf s .size → length script ≤ longestScript → (fault : Fault) (offset : ℕ) → decode script ≡ badAt fault offset
-      → Numbers s size script out (faultNumber fault)
+      → Reason s size script out (faultNumber fault)
   wrong-output : Sound s → size ≡ dataOf s .size → length script ≤ longestScript → (rs : List Record) → decode script ≡ records rs
-      → (out ≡ outputLength rs → ⊥) → Numbers s size script out 4
+      → (out ≡ outputLength rs → ⊥) → Reason s size script out 4
 
 module _ (s : State) (size : ℕ) (script : List ℕ) (out : ℕ) where
   -- a script of few enough bytes, by what they are
-  numbers-decoded : Sound s → size ≡ dataOf s .size → length script ≤ longestScript → (d : Decoded) → decode script ≡ d
-      → Numbers s size script out (scriptNumber s size script out)
+  reason-decoded : Sound s → size ≡ dataOf s .size → length script ≤ longestScript → (d : Decoded) → decode script ≡ d
+      → Reason s size script out (scriptNumber s size script out)
   unfolding scriptNumber
-  numbers-decoded h z l (records rs) e =
+  reason-decoded h z l (records rs) e =
       rw (of-sound s h, eq-eqb size (dataOf s .size) z, le-ltb longestScript (length script) l, e)
       (cases (eqb out (outputLength rs))
-      (λ t. rw t (accepted record { sound = h; sized = z; short = l; list = rs; decoded = e; same = eqb-true out (outputLength rs) t }))
+      (λ t. rw t (none record { sound = h; sized = z; short = l; list = rs; decoded = e; same = eqb-true out (outputLength rs) t }))
       (λ t. rw t (wrong-output h z l rs e (eqb-false out (outputLength rs) t))))
-  numbers-decoded h z l (badAt fault offset) e =
+  reason-decoded h z l (badAt fault offset) e =
       rw (of-sound s h, eq-eqb size (dataOf s .size) z, le-ltb longestScript (length script) l, e) (bad-record h z l fault offset e)
 
-  -- the number is its reason's
-  pub numbers : Numbers s size script out (scriptNumber s size script out)
+  pub number-reason : Reason s size script out (scriptNumber s size script out)
   unfolding scriptNumber
-  numbers =
+  number-reason =
       cases (isSound s)
       (λ a. let h = sound-of s a in
       cases (eqb size (dataOf s .size))
       (λ b. let z = eqb-true size (dataOf s .size) b in
       cases (ltb longestScript (length script)) (λ t. rw (a, b, t) (too-long h z (ltb-true longestScript (length script) t)))
-      (λ t. numbers-decoded h z (ltb-false longestScript (length script) t) (decode script) refl))
+      (λ t. reason-decoded h z (ltb-false longestScript (length script) t) (decode script) refl))
       (λ b. rw (a, b) (wrong-array h (eqb-false size (dataOf s .size) b))))
       (λ a. rw a (unsound a))
 
--- and back: a reason gives its number
-number-is : (s : State) (size : ℕ) (script : List ℕ) (out k : ℕ) → Numbers s size script out k → scriptNumber s size script out ≡ k
+-- and back
+pub reason-number : (s : State) (size : ℕ) (script : List ℕ) (out k : ℕ) → Reason s size script out k → scriptNumber s size script out ≡ k
 unfolding scriptNumber
-number-is s size script out _ (accepted a) =
+reason-number s size script out _ (none a) =
     rw (
       of-sound s (a .sound),
       eq-eqb size (dataOf s .size) (a .sized),
@@ -78,17 +77,17 @@ number-is s size script out _ (accepted a) =
       a .decoded,
       eq-eqb out (outputLength (a .list)) (a .same),
     ) refl
-number-is s size script out _ (unsound h) = rw h refl
-number-is s size script out _ (wrong-array h z) = rw (of-sound s h, ne-eqb size (dataOf s .size) z) refl
-number-is s size script out _ (too-long h z l) =
+reason-number s size script out _ (unsound h) = rw h refl
+reason-number s size script out _ (wrong-array h z) = rw (of-sound s h, ne-eqb size (dataOf s .size) z) refl
+reason-number s size script out _ (too-long h z l) =
     rw (of-sound s h, eq-eqb size (dataOf s .size) z, lt-ltb longestScript (length script) l) refl
-number-is s size script out _ (bad-record h z l fault offset e) =
+reason-number s size script out _ (bad-record h z l fault offset e) =
     rw (of-sound s h, eq-eqb size (dataOf s .size) z, le-ltb longestScript (length script) l, e) refl
-number-is s size script out _ (wrong-output h z l rs e o) =
+reason-number s size script out _ (wrong-output h z l rs e o) =
     rw (of-sound s h, eq-eqb size (dataOf s .size) z, le-ltb longestScript (length script) l, e, ne-eqb out (outputLength rs) o) refl
 
-accepted-at : (s : State) (size : ℕ) (script : List ℕ) (out k : ℕ) → Numbers s size script out k → k ≡ 0 → Accepted s size script out
-accepted-at s size script out _ (accepted a) q = a
+accepted-at : (s : State) (size : ℕ) (script : List ℕ) (out k : ℕ) → Reason s size script out k → k ≡ 0 → Accepted s size script out
+accepted-at s size script out _ (none a) q = a
 accepted-at s size script out _ (unsound h) q = absurd (omega (arith, q))
 accepted-at s size script out _ (wrong-array h z) q = absurd (omega (arith, q))
 accepted-at s size script out _ (too-long h z l) q = absurd (omega (arith, q))
@@ -98,14 +97,14 @@ accepted-at s size script out _ (wrong-output h z l rs e o) q = absurd (omega (a
 module _ (s : State) (size : ℕ) (script : List ℕ) (out : ℕ) where
   -- "given exactly when": its condition holds and none that is checked before it
   pub script-exactly : (k : ℕ)
-      → (scriptNumber s size script out ≡ k → Numbers s size script out k) × (Numbers s size script out k → scriptNumber s size script out ≡ k)
-  script-exactly k = (λ e. rw e at (numbers s size script out), number-is s size script out k)
+      → (scriptNumber s size script out ≡ k → Reason s size script out k) × (Reason s size script out k → scriptNumber s size script out ≡ k)
+  script-exactly k = (λ e. rw e at (number-reason s size script out), reason-number s size script out k)
 
   pub number-accepted : scriptNumber s size script out ≡ 0 → Accepted s size script out
-  number-accepted e = accepted-at s size script out (scriptNumber s size script out) (numbers s size script out) e
+  number-accepted e = accepted-at s size script out (scriptNumber s size script out) (number-reason s size script out) e
 
   pub accepted-number : Accepted s size script out → scriptNumber s size script out ≡ 0
-  accepted-number a = number-is s size script out 0 (accepted a)
+  accepted-number a = reason-number s size script out 0 (none a)
 
   number-by-decoded : length script ≤ longestScript → (d : Decoded) → decode script ≡ d
       → surveyedNumber s size (surveyOf script) out ≡ scriptNumber s size script out

@@ -1,0 +1,145 @@
+//! The operations that are measured. Each can be repeated: doing one again costs the same.
+
+use std::hint::black_box;
+
+use model::{Calls, Model, State, LONGEST_REGION};
+use zeradok::Library;
+
+const SIZE_008A: usize = 0x10_0000;
+const SIZE_05PA: usize = 0x1_0000;
+/// Longer than any plan's script, and than the outputs of its frames.
+const ROOMY: usize = 27_000;
+
+pub enum Operation {
+    Frame { state: State, array: Vec<u8>, frame: Vec<u8>, output: Vec<u8> },
+    Plan { state: State, array: Vec<u8>, start: usize, wanted: Vec<u8>, buffer: Vec<u8> },
+    Run { state: State, array: Vec<u8>, script: Vec<u8>, output: Vec<u8> },
+}
+
+type Prepare = fn() -> Operation;
+
+pub const OPERATIONS: [(&str, Prepare); 9] = [
+    ("05, status", || frame(writing(8), SIZE_008A, &[0x05, 0x00], 2)),
+    ("03, 4,096 bytes", || frame(writing(8), SIZE_008A, &[0x03, 0x01, 0x23, 0x45], 4_100)),
+    ("02, page of 256 (05PA)", || frame(writing(5), SIZE_05PA, &[0x02, 0x00, 0x12, 0x00], 260)),
+    ("AD, one word in AAI (008A)", || {
+        let state = State { aai: true, next: 0x01_2344, ..writing(8) };
+        frame(state, SIZE_008A, &[0xAD, 0x5A, 0xA5], 3)
+    }),
+    ("20, sector erase (008A)", || frame(writing(8), SIZE_008A, &[0x20, 0x01, 0x23, 0x45], 4)),
+    ("plan 4,096 bytes, worst (008A)", worst_plan_008a),
+    ("plan 4,096 bytes, worst (05PA)", worst_plan_05pa),
+    ("run that plan (008A)", || run(worst_plan_008a())),
+    ("run that plan (05PA)", || run(worst_plan_05pa())),
+];
+
+/// At rest, unprotected, WEL 1.
+fn writing(chip: u8) -> State {
+    State { chip, wel: true, ..State::default() }
+}
+
+fn frame(state: State, size: usize, head: &[u8], length: usize) -> Operation {
+    let mut frame = head.to_vec();
+    frame.resize(length, 0x3C);
+    Operation::Frame { state, array: vec![0xFF; size], frame, output: vec![0; length] }
+}
+
+/// Every second word changes, so each is a run of its own, and all is protected. An odd start
+/// makes it one word more.
+fn worst_plan_008a() -> Operation {
+    let start = 0x01_2345;
+    let wanted = (start..start + LONGEST_REGION)
+        .map(|address| if address / 2 % 2 == start / 2 % 2 { 0xFE } else { 0xFF })
+        .collect();
+    Operation::Plan {
+        state: State { chip: 8, bp: 7, ..State::default() },
+        array: vec![0xFF; SIZE_008A],
+        start,
+        wanted,
+        buffer: vec![0; ROOMY],
+    }
+}
+
+/// Every byte of 17 pages changes, and all is protected.
+fn worst_plan_05pa() -> Operation {
+    Operation::Plan {
+        state: State { chip: 5, bp: 7, ..State::default() },
+        array: vec![0xFF; SIZE_05PA],
+        start: 0x2345,
+        wanted: vec![0xFE; LONGEST_REGION],
+        buffer: vec![0; ROOMY],
+    }
+}
+
+/// Running what a plan gives. Programming what is programmed already costs no less.
+fn run(plan: Operation) -> Operation {
+    let Operation::Plan { state, array, start, wanted, mut buffer } = plan else {
+        return plan;
+    };
+    let planned = <Model>::plan(state, true, &array, start, &wanted, &mut buffer);
+    buffer.truncate(planned.length as usize);
+    let mut outputs = 0;
+    let mut at = 0;
+    while at < buffer.len() {
+        let record = <Model>::read(&buffer, at);
+        outputs += record.length;
+        at = record.next;
+    }
+    Operation::Run { state, array, script: buffer, output: vec![0; outputs] }
+}
+
+/// Somebody to be measured: frames go to a chip held in the subject's own form, so that no
+/// conversion is measured with them.
+pub trait Subject: Calls {
+    type Chip: From<State> + Copy;
+    fn send(chip: &mut Self::Chip, array: &mut [u8], frame: &[u8], output: &mut [u8]) -> u32;
+}
+
+impl Subject for Library {
+    type Chip = zeradok::Chip;
+
+    fn send(chip: &mut Self::Chip, array: &mut [u8], frame: &[u8], output: &mut [u8]) -> u32 {
+        chip.frame(black_box(true), array, frame, output)
+    }
+}
+
+impl Subject for Model {
+    type Chip = State;
+
+    fn send(chip: &mut Self::Chip, array: &mut [u8], frame: &[u8], output: &mut [u8]) -> u32 {
+        <Model>::frame(chip, black_box(true), array, frame, output)
+    }
+}
+
+impl Operation {
+    /// Does it so many times; each has to be accepted.
+    pub fn repeat<S: Subject>(&mut self, times: u32) {
+        match self {
+            Operation::Frame { state, array, frame, output } => {
+                let at_first = S::Chip::from(*state);
+                for _ in 0..times {
+                    let mut chip = black_box(at_first);
+                    let (array, output) = (black_box(&mut array[..]), black_box(&mut output[..]));
+                    let number = S::send(&mut chip, array, black_box(&frame[..]), output);
+                    assert_eq!(number, 0);
+                    black_box(&mut chip);
+                }
+            }
+            Operation::Plan { state, array, start, wanted, buffer } => {
+                for _ in 0..times {
+                    let (array, wanted) = (black_box(&array[..]), black_box(&wanted[..]));
+                    let buffer = black_box(&mut buffer[..]);
+                    let planned = S::plan(black_box(*state), true, array, *start, wanted, buffer);
+                    assert_eq!(planned.number, 0);
+                }
+            }
+            Operation::Run { state, array, script, output } => {
+                for _ in 0..times {
+                    let (array, output) = (black_box(&mut array[..]), black_box(&mut output[..]));
+                    let ran = S::run(black_box(*state), true, array, black_box(script), output);
+                    assert_eq!(ran.number, 0);
+                }
+            }
+        }
+    }
+}

@@ -1,0 +1,194 @@
+//! What has to be met, and how often.
+
+use std::fmt;
+
+use model::{kind, Reason};
+
+use super::sorts::{FrameSort, PlanSort, RunSort, TimeSort};
+use super::Met;
+use crate::{frames, CHIPS, F25L008A, F25L05PA};
+
+/// Things of one kind, each of which has to be met at least so many times.
+pub struct Goals {
+    pub name: &'static str,
+    pub least: u32,
+    pub each: Vec<Met>,
+}
+
+impl fmt::Display for Goals {
+    fn fmt(&self, to: &mut fmt::Formatter<'_>) -> fmt::Result {
+        write!(to, "{}: {}, each at least {} times", self.name, self.each.len(), self.least)
+    }
+}
+
+/// Everything that has to be met.
+pub fn goals() -> Vec<Goals> {
+    let goal = |name, least, each| Goals { name, least, each };
+    vec![
+        goal("opcodes taken", 50, taken("frame")),
+        goal("opcodes ignored, by reason", 50, ignored("frame")),
+        goal("opcodes unknown", 50, unknown("frame")),
+        goal("opcodes taken, cut", 10, taken("cut_frame")),
+        goal("opcodes ignored, cut, by reason", 10, ignored("cut_frame")),
+        goal("opcodes unknown, cut", 2, unknown("cut_frame")),
+        goal("refusals", 100, refused()),
+        goal("refusals before others", 50, refused_first()),
+        goal("levels of protection and WP", 100, levels()),
+        goal("sorts of frames", 15, frame_sorts()),
+        goal("sorts of plans", 30, plan_sorts()),
+        goal("sorts of runs", 50, run_sorts()),
+        goal("sorts of waits", 50, time_sorts()),
+        goal("kinds of records", 100, records()),
+    ]
+}
+
+fn known() -> impl Iterator<Item = (u8, u8)> {
+    CHIPS.into_iter().flat_map(|chip| frames::known(chip).iter().map(move |opcode| (chip, *opcode)))
+}
+
+fn taken(call: &'static str) -> Vec<Met> {
+    known().map(|(chip, opcode)| Met::Taken { call, chip, opcode }).collect()
+}
+
+/// Every known opcode with every reason there can be to ignore it.
+fn ignored(call: &'static str) -> Vec<Met> {
+    let mut all = Vec::new();
+    for (chip, opcode) in known() {
+        let writes = matches!(opcode, 0x02 | 0x20 | 0x60 | 0xAD | 0xC7 | 0xD8);
+        let any_length = matches!(opcode, 0x03 | 0x05 | 0x0B | 0x90 | 0x9F | 0xAB);
+        let fits_aai = matches!(opcode, 0x04 | 0x05 | 0xAD);
+        for (can_be, reason) in [
+            (opcode != 0x05, Reason::Busy),
+            (chip == F25L008A && !fits_aai, Reason::InAai),
+            (chip == F25L05PA && opcode != 0xAB, Reason::InPowerDown),
+            (!any_length, Reason::WrongLength),
+            (opcode == 0x01, Reason::NotArmed),
+            (opcode == 0x01, Reason::Locked),
+            (writes, Reason::WriteDisabled),
+            (writes, Reason::Protected),
+        ] {
+            if can_be {
+                all.push(Met::Ignored { call, chip, opcode, reason });
+            }
+        }
+    }
+    all
+}
+
+fn unknown(call: &'static str) -> Vec<Met> {
+    let reason = Reason::UnknownOpcode;
+    let mut all = Vec::new();
+    for chip in CHIPS {
+        for opcode in 0..=255 {
+            if !frames::known(chip).contains(&opcode) {
+                all.push(Met::Ignored { call, chip, opcode, reason });
+            }
+        }
+    }
+    all
+}
+
+/// Each refusal of each call that can give it, and on each chip.
+fn refused() -> Vec<Met> {
+    let without_chip: [(&str, &[u32]); 4] =
+        [("new", &[1]), ("power_up", &[1]), ("wait", &[1]), ("read", &[11, 12])];
+    let with_chip: [(&str, &[u32]); 4] = [
+        ("frame", &[1, 2, 3, 4]),
+        ("cut_frame", &[1, 2, 3, 4, 5]),
+        ("plan", &[1, 2, 6, 7, 8, 9, 10]),
+        ("run", &[1, 2, 11, 12, 4]),
+    ];
+    let mut all = Vec::new();
+    for (call, numbers) in without_chip {
+        all.extend(numbers.iter().map(|&number| Met::Refused { call, chip: 0, number }));
+    }
+    for (call, numbers) in with_chip {
+        all.push(Met::Refused { call, chip: 0, number: 1 });
+        for chip in CHIPS {
+            all.extend(numbers.iter().map(|&number| Met::Refused { call, chip, number }));
+        }
+    }
+    all
+}
+
+/// A refusal where a later one in the order of checks would hold too.
+fn refused_first() -> Vec<Met> {
+    let calls: [(&str, &[(u32, u32)]); 5] = [
+        ("frame", &[(1, 2), (1, 3), (1, 4), (2, 3), (2, 4), (3, 4)]),
+        ("cut_frame", &[(1, 2), (1, 5), (2, 3), (2, 5), (3, 4), (3, 5), (4, 5)]),
+        ("plan", &[(1, 2), (2, 6), (6, 7), (7, 8), (7, 10), (8, 9), (8, 10), (9, 10)]),
+        ("run", &[(1, 2), (1, 4), (2, 11), (2, 12), (11, 12), (11, 4), (12, 4)]),
+        ("read", &[(11, 12)]),
+    ];
+    let mut all = Vec::new();
+    for (call, pairs) in calls {
+        let each = |&(number, other)| Met::RefusedFirst { call, number, other };
+        all.extend(pairs.iter().map(each));
+    }
+    all
+}
+
+fn levels() -> Vec<Met> {
+    let mut all = Vec::new();
+    for call in ["frame", "cut_frame", "plan", "run"] {
+        for chip in CHIPS {
+            for bp in 0..8 {
+                for wp_high in [false, true] {
+                    all.push(Met::Level { call, chip, bp, wp_high });
+                }
+            }
+        }
+    }
+    all
+}
+
+fn frame_sorts() -> Vec<Met> {
+    let mut all = Vec::new();
+    for call in ["frame", "cut_frame"] {
+        all.extend(FrameSort::ALL.iter().map(|&sort| Met::Frame { call, sort }));
+    }
+    all
+}
+
+fn plan_sorts() -> Vec<Met> {
+    let mut all = Vec::new();
+    for chip in CHIPS {
+        for wp_high in [false, true] {
+            for &sort in PlanSort::ALL {
+                let can_be = match sort {
+                    PlanSort::LockedButFree => !wp_high,
+                    PlanSort::ProtectedButUnchanged => chip == F25L008A,
+                    _ => true,
+                };
+                if can_be {
+                    all.push(Met::Plan { chip, wp_high, sort });
+                }
+            }
+        }
+    }
+    all
+}
+
+fn run_sorts() -> Vec<Met> {
+    let mut all = Vec::new();
+    for chip in CHIPS {
+        all.extend(RunSort::ALL.iter().map(|&sort| Met::Run { chip, sort }));
+    }
+    all
+}
+
+fn time_sorts() -> Vec<Met> {
+    let mut all = Vec::new();
+    for chip in CHIPS {
+        for &sort in TimeSort::ALL {
+            if chip == F25L008A || !matches!(sort, TimeSort::AaiStays | TimeSort::AaiEnds) {
+                all.push(Met::Time { chip, sort });
+            }
+        }
+    }
+    all
+}
+
+fn records() -> Vec<Met> {
+    [kind::FRAME, kind::WAIT, kind::END].map(|kind| Met::Record { kind }).into()
+}

@@ -1,0 +1,139 @@
+//! What the cases met, and how often each of it has to be met.
+
+mod goals;
+mod sorts;
+
+use std::collections::BTreeMap;
+
+use model::{Model, Reason, State};
+
+use crate::case::{Case, On, Outcome};
+use crate::generator::Item;
+use crate::CHIPS;
+pub use goals::{goals, Goals};
+use sorts::{FrameSort, PlanSort, RunSort, TimeSort};
+
+/// Something that a case can meet. An unknown chip has number 0, as has none.
+#[derive(Clone, Copy, Debug, PartialEq, Eq, PartialOrd, Ord)]
+pub enum Met {
+    /// A frame was taken.
+    Taken { call: &'static str, chip: u8, opcode: u8 },
+    /// A frame was ignored for this reason.
+    Ignored { call: &'static str, chip: u8, opcode: u8, reason: Reason },
+    /// A call was refused.
+    Refused { call: &'static str, chip: u8, number: u32 },
+    /// A call was refused though another, later refusal was planted too.
+    RefusedFirst { call: &'static str, number: u32, other: u32 },
+    /// A call was accepted at this level of protection and of WP.
+    Level { call: &'static str, chip: u8, bp: u8, wp_high: bool },
+    /// A taken frame was of this sort.
+    Frame { call: &'static str, sort: FrameSort },
+    /// A plan was of this sort.
+    Plan { chip: u8, wp_high: bool, sort: PlanSort },
+    /// A script that ran was of this sort.
+    Run { chip: u8, sort: RunSort },
+    /// Time did this.
+    Time { chip: u8, sort: TimeSort },
+    /// The reader gave a record of this kind.
+    Record { kind: u32 },
+}
+
+#[derive(Default)]
+pub struct Counts(BTreeMap<Met, u32>);
+
+impl Counts {
+    pub fn of(&self, met: &Met) -> u32 {
+        self.0.get(met).copied().unwrap_or(0)
+    }
+
+    fn count(&mut self, met: Met) {
+        *self.0.entry(met).or_default() += 1;
+    }
+
+    pub fn note(&mut self, item: &Item, outcome: &Outcome, buffer: &[u8]) {
+        if outcome.number() == 0 {
+            self.note_accepted(&item.case, outcome, buffer);
+        } else {
+            self.note_refused(item, outcome.number());
+        }
+    }
+
+    fn note_refused(&mut self, item: &Item, number: u32) {
+        let call = item.case.call();
+        let chip = item.case.on().map_or(0, |on| known(on.state.chip));
+        self.count(Met::Refused { call, chip, number });
+        for other in item.planted.numbers() {
+            if rank(call, other) > rank(call, number) {
+                self.count(Met::RefusedFirst { call, number, other });
+            }
+        }
+        if let (10, true, Some(on)) = (number, item.one_short, item.case.on()) {
+            let (wp_high, sort) = (on.wp_high, PlanSort::OneByteShort);
+            self.count(Met::Plan { chip, wp_high, sort });
+        }
+    }
+
+    fn note_accepted(&mut self, case: &Case, outcome: &Outcome, buffer: &[u8]) {
+        let call = case.call();
+        if let Some(On { state, wp_high, .. }) = case.on() {
+            let State { chip, bp, .. } = *state;
+            let wp_high = *wp_high;
+            self.count(Met::Level { call, chip, bp, wp_high });
+        }
+        match (case, outcome) {
+            (Case::Frame { on, frame, .. } | Case::Cut { on, frame, .. }, _) => {
+                self.note_frame(call, on, frame)
+            }
+            (Case::Plan { on, start, wanted, .. }, Outcome::Planned(planned)) => {
+                let script = &buffer[..planned.length as usize];
+                let region = *start..start + wanted.len();
+                let (chip, wp_high) = (on.state.chip, on.wp_high);
+                for sort in sorts::of_plan(on, region, buffer.len(), script) {
+                    self.count(Met::Plan { chip, wp_high, sort });
+                }
+            }
+            (Case::Run { on, script, .. }, Outcome::Ran(ran)) => {
+                let chip = on.state.chip;
+                for sort in sorts::of_run(script, ran) {
+                    self.count(Met::Run { chip, sort });
+                }
+            }
+            (Case::Wait { state, .. }, Outcome::Answer(answer)) => {
+                let (chip, sort) = (state.chip, sorts::of_time(state, &answer.state));
+                self.count(Met::Time { chip, sort });
+            }
+            (_, Outcome::Record(record)) => self.count(Met::Record { kind: record.kind }),
+            _ => {}
+        }
+    }
+
+    fn note_frame(&mut self, call: &'static str, on: &On, frame: &[u8]) {
+        let (chip, opcode) = (on.state.chip, frame[0]);
+        match Model::verdict(&on.state, on.wp_high, frame) {
+            Some(Ok(kind)) => {
+                self.count(Met::Taken { call, chip, opcode });
+                for sort in sorts::of_frame(&on.state, kind, frame) {
+                    self.count(Met::Frame { call, sort });
+                }
+            }
+            Some(Err(reason)) => self.count(Met::Ignored { call, chip, opcode, reason }),
+            None => {}
+        }
+    }
+}
+
+fn known(chip: u8) -> u8 {
+    if CHIPS.contains(&chip) {
+        chip
+    } else {
+        0
+    }
+}
+
+/// The place of a refusal in the order of checks: a script's output comes last.
+fn rank(call: &str, number: u32) -> u32 {
+    match (call, number) {
+        ("run", 4) => 13,
+        _ => number,
+    }
+}

@@ -1,0 +1,134 @@
+//! Sorts of cases worth counting.
+
+use std::ops::Range;
+
+use model::{Kind, Ran, State, LONGEST_REGION, LONGEST_SCRIPT};
+
+use crate::case::On;
+use crate::{first_protected, size, F25L008A, F25L05PA};
+
+/// Declares a sort with the list of all its cases.
+macro_rules! sorts {
+    ($name:ident { $($(#[$doc:meta])* $sort:ident),* $(,)? }) => {
+        #[derive(Clone, Copy, Debug, PartialEq, Eq, PartialOrd, Ord)]
+        pub enum $name { $($(#[$doc])* $sort),* }
+
+        impl $name {
+            pub const ALL: &[Self] = &[$(Self::$sort),*];
+        }
+    };
+}
+
+sorts!(FrameSort {
+    WrappedPage,
+    PageOver256,
+    LongestPage,
+    ReadPastTop008A,
+    ReadPastTop05PA,
+    OddWordAddress,
+    AddressBeyondSize,
+    /// AAI's first word ends at the first protected address.
+    WordAtBorder,
+});
+
+sorts!(PlanSort {
+    Empty,
+    WithStep1,
+    WithoutStep1,
+    OddStart,
+    OddEnd,
+    ExactRoom,
+    OneByteShort,
+    LongestRegion,
+    FromWel,
+    FromArmed,
+    /// BPL 1 and WP low, and no need of step 1.
+    LockedButFree,
+    /// Changes only below the border, in a region that passes it.
+    ProtectedButUnchanged,
+});
+
+sorts!(RunSort { Empty, LongestScript, MicrosecondsOver32Bits });
+
+sorts!(TimeSort { AtRest, BusyGoesOn, BusyEnds, AaiStays, AaiEnds });
+
+fn holding<T: Copy, const N: usize>(sorts: [(bool, T); N]) -> impl Iterator<Item = T> {
+    sorts.into_iter().filter_map(|(holds, sort)| holds.then_some(sort))
+}
+
+/// The sorts of a taken frame.
+pub fn of_frame(state: &State, kind: Kind, frame: &[u8]) -> impl Iterator<Item = FrameSort> {
+    let chip = state.chip;
+    let (named, data) = match *frame {
+        [_, high, middle, low, ref data @ ..] => {
+            (u32::from_be_bytes([0, high, middle, low]) as usize, data.len())
+        }
+        _ => (0, 0),
+    };
+    let address = named % size(chip);
+    let page = kind == Kind::Program && chip == F25L05PA;
+    let word = kind == Kind::WordProgram && data == 2;
+    let past_top = kind == Kind::Read && address + data > size(chip);
+    let at_border = (address | 1) + 1 == first_protected(chip, state.bp);
+    holding([
+        (page && address % 256 + data > 256, FrameSort::WrappedPage),
+        (page && data > 256, FrameSort::PageOver256),
+        (page && data == 4_097, FrameSort::LongestPage),
+        (past_top && chip == F25L008A, FrameSort::ReadPastTop008A),
+        (past_top && chip == F25L05PA, FrameSort::ReadPastTop05PA),
+        (word && address % 2 == 1, FrameSort::OddWordAddress),
+        ((page || word) && named != address, FrameSort::AddressBeyondSize),
+        (word && at_border, FrameSort::WordAtBorder),
+    ])
+}
+
+/// The sorts of an accepted plan.
+pub fn of_plan(
+    on: &On,
+    region: Range<usize>,
+    room: usize,
+    script: &[u8],
+) -> impl Iterator<Item = PlanSort> {
+    let State { chip, bp, bpl, wel, armed, .. } = on.state;
+    let full = !script.is_empty();
+    let step_1 = match chip {
+        F25L008A => script.get(4) == Some(&0x50),
+        _ => script.get(9) == Some(&0x01),
+    };
+    let free = full && !step_1;
+    let passes_border = region.end > first_protected(chip, bp);
+    holding([
+        (!full, PlanSort::Empty),
+        (full && step_1, PlanSort::WithStep1),
+        (free, PlanSort::WithoutStep1),
+        (full && region.start % 2 == 1, PlanSort::OddStart),
+        (full && region.end % 2 == 1, PlanSort::OddEnd),
+        (full && room == script.len(), PlanSort::ExactRoom),
+        (full && region.len() == LONGEST_REGION, PlanSort::LongestRegion),
+        (full && wel, PlanSort::FromWel),
+        (full && armed, PlanSort::FromArmed),
+        (free && bpl && !on.wp_high, PlanSort::LockedButFree),
+        (free && passes_border, PlanSort::ProtectedButUnchanged),
+    ])
+}
+
+/// The sorts of a script that ran.
+pub fn of_run(script: &[u8], ran: &Ran) -> impl Iterator<Item = RunSort> {
+    let over = ran.microseconds > u64::from(u32::MAX);
+    holding([
+        (script.is_empty(), RunSort::Empty),
+        (script.len() == LONGEST_SCRIPT, RunSort::LongestScript),
+        (over, RunSort::MicrosecondsOver32Bits),
+    ])
+}
+
+/// What time did to a chip.
+pub fn of_time(before: &State, after: &State) -> TimeSort {
+    match (before.left, after.left) {
+        (0, _) => TimeSort::AtRest,
+        (_, 0) if !before.aai => TimeSort::BusyEnds,
+        (_, 0) if after.aai => TimeSort::AaiStays,
+        (_, 0) => TimeSort::AaiEnds,
+        _ => TimeSort::BusyGoesOn,
+    }
+}

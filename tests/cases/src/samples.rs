@@ -1,0 +1,170 @@
+//! The samples of 01.
+
+use model::{Calls, State};
+
+use crate::{scripts, size, F25L008A, F25L05PA};
+
+/// The names of the samples that fail.
+pub fn failing<C: Calls>() -> Vec<&'static str> {
+    samples::<C>().into_iter().filter(|(_, holds)| !holds()).map(|(name, _)| name).collect()
+}
+
+type Sample = (&'static str, fn() -> bool);
+
+fn samples<C: Calls>() -> Vec<Sample> {
+    vec![
+        ("status of a new 008A", || {
+            Chip::<C>::new(F25L008A).send(&[0x05, 0, 0]) == [0xFF, 0x1C, 0x1C]
+        }),
+        ("JEDEC of the 008A", || {
+            Chip::<C>::new(F25L008A).send(&[0x9F, 0, 0, 0, 0]) == [0xFF, 0x8C, 0x20, 0x14, 0xFF]
+        }),
+        ("signature of the 05PA", || {
+            Chip::<C>::new(F25L05PA).send(&[0xAB, 0, 0, 0, 0]) == [0xFF, 0xFF, 0xFF, 0xFF, 0x05]
+        }),
+        ("ID of the 008A, device first", || {
+            Chip::<C>::new(F25L008A).send(&[0x90, 0, 0, 1, 0, 0, 0])
+                == [0xFF, 0xFF, 0xFF, 0xFF, 0x13, 0x8C, 0x13]
+        }),
+        ("BP 001 of the 008A", || {
+            let mut chip = Chip::<C>::enabled(F25L008A, 1);
+            chip.send(&[0x02, 0x0F, 0, 0, 0]);
+            let protected = chip.array[0x0F_0000] == 0xFF;
+            chip.send(&[0x02, 0x0E, 0xFF, 0xFF, 0]);
+            protected && chip.array[0x0E_FFFF] == 0
+        }),
+        ("A5 programmed 0F", || {
+            let mut chip = Chip::<C>::enabled(F25L008A, 0);
+            chip.array[7] = 0xA5;
+            chip.send(&[0x02, 0, 0, 7, 0x0F]);
+            chip.array[7] == 0x05
+        }),
+        ("AAI drops address bit 0", || {
+            let mut chip = Chip::<C>::enabled(F25L008A, 0);
+            chip.send(&[0xAD, 0x01, 0x23, 0x45, 0x11, 0x22]);
+            chip.array[0x01_2344..0x01_2347] == [0x11, 0x22, 0xFF]
+        }),
+        ("a page write wraps in its page", || {
+            let mut chip = Chip::<C>::enabled(F25L05PA, 0);
+            chip.send(&[0x02, 0, 0, 0xFF, 0x01, 0x02]);
+            chip.array[0xFF] == 0x01 && chip.array[0] == 0x02 && chip.array[0x100] == 0xFF
+        }),
+        ("chip erase with only BP2 set", || {
+            let mut page = Chip::<C>::enabled(F25L05PA, 4);
+            let mut word = Chip::<C>::enabled(F25L008A, 4);
+            page.array[9] = 0;
+            word.array[9] = 0;
+            page.send(&[0xC7]);
+            word.send(&[0xC7]);
+            page.array[9] == 0xFF && word.array[9] == 0
+        }),
+        ("AAI at the top", || {
+            let mut chip = Chip::<C>::enabled(F25L008A, 0);
+            chip.send(&[0xAD, 0x0F, 0xFF, 0xFE, 0x11, 0x22]);
+            chip.wait(6);
+            let busy = chip.send(&[0x05, 0]) == [0xFF, 0x43];
+            chip.wait(1);
+            busy && chip.send(&[0x05, 0]) == [0xFF, 0x00]
+        }),
+        ("05 between 50 and 01", || {
+            let mut chip = Chip::<C>::new(F25L008A);
+            chip.send(&[0x50]);
+            chip.send(&[0x05, 0]);
+            chip.send(&[0x01, 0]);
+            chip.state.bp == 7
+        }),
+        ("the plan of one byte", one_byte_plan::<C>),
+        ("plans at the very end", || {
+            let chip = Chip::<C>::enabled(F25L008A, 0);
+            let plan = |wanted: &[u8]| {
+                C::plan(chip.state, true, &chip.array, size(F25L008A), wanted, &mut [])
+            };
+            plan(&[]).number == 0 && plan(&[]).length == 0 && plan(&[0xFF]).number == 6
+        }),
+        ("frames of 4,101 and 4,102", || {
+            let mut chip = Chip::<C>::new(F25L008A);
+            let mut number = |length: usize| {
+                let mut output = vec![0; length];
+                let frame = vec![0x03; length];
+                C::frame(&mut chip.state, true, &mut chip.array, &frame, &mut output)
+            };
+            number(4_101) == 0 && number(4_102) == 3
+        }),
+        ("05PA read of two at FFFF", || {
+            let mut chip = Chip::<C>::new(F25L05PA);
+            chip.array[0xFFFF] = 0x12;
+            chip.array[0] = 0x34;
+            chip.send(&[0x03, 0, 0xFF, 0xFF, 0, 0])[4..] == [0x12, 0x34]
+        }),
+        ("the script of play", play::<C>),
+    ]
+}
+
+fn one_byte_plan<C: Calls>() -> bool {
+    let state = State { chip: F25L008A, ..State::default() };
+    let array = vec![0xFF; size(F25L008A)];
+    let plan = |buffer: &mut [u8]| C::plan(state, true, &array, 0x01_2345, &[0xFE], buffer);
+    let mut buffer = [0; 26];
+    let planned = plan(&mut buffer);
+    let script = [
+        0x5A, 0x46, 0x00, 0x01, 0x06, 0x5A, 0x46, 0x00, 0x06, 0xAD, 0x01, 0x23, 0x44, 0xFF, 0xFE,
+        0x5A, 0x57, 0x00, 0x00, 0x00, 0x07, 0x5A, 0x46, 0x00, 0x01, 0x04,
+    ];
+    let counts = (planned.number, planned.length, planned.frames, planned.microseconds);
+    counts == (0, 26, 3, 7) && buffer == script && plan(&mut [0; 25]).number == 10
+}
+
+fn play<C: Calls>() -> bool {
+    let mut script = Vec::new();
+    scripts::put_frame(&mut script, &[0x9F, 0, 0, 0]);
+    scripts::put_frame(&mut script, &[0x06]);
+    scripts::put_frame(&mut script, &[0x02, 0x00, 0x01, 0x00, 0xA5]);
+    scripts::put_wait(&mut script, 1_500);
+    scripts::put_frame(&mut script, &[0x05, 0x00]);
+    scripts::put_frame(&mut script, &[0x03, 0x00, 0x01, 0x00, 0x00, 0x00]);
+    let mut chip = Chip::<C>::new(F25L05PA);
+    let mut output = [0; 18];
+    let ran = C::run(chip.state, true, &mut chip.array, &script, &mut output);
+    let outputs = [
+        0xFF, 0x8C, 0x30, 0x10, 0xFF, 0xFF, 0xFF, 0xFF, 0xFF, 0xFF, 0xFF, 0x00, 0xFF, 0xFF, 0xFF,
+        0xFF, 0xA5, 0xFF,
+    ];
+    output == outputs
+        && (ran.number, ran.frames, ran.microseconds) == (0, 5, 1_500)
+        && ran.state == C::new_chip(F25L05PA).state
+}
+
+/// A chip with an erased array.
+struct Chip<C> {
+    state: State,
+    array: Vec<u8>,
+    calls: std::marker::PhantomData<C>,
+}
+
+impl<C: Calls> Chip<C> {
+    fn new(chip: u8) -> Self {
+        Self {
+            state: C::new_chip(chip).state,
+            array: vec![0xFF; size(chip)],
+            calls: std::marker::PhantomData,
+        }
+    }
+
+    /// With this protection and WEL 1.
+    fn enabled(chip: u8, bp: u8) -> Self {
+        let mut new = Self::new(chip);
+        new.state = State { bp, wel: true, ..new.state };
+        new
+    }
+
+    fn send(&mut self, frame: &[u8]) -> Vec<u8> {
+        let mut output = vec![0; frame.len()];
+        let number = C::frame(&mut self.state, true, &mut self.array, frame, &mut output);
+        assert_eq!(number, 0, "a sample's frame was refused");
+        output
+    }
+
+    fn wait(&mut self, microseconds: u32) {
+        self.state = C::wait(self.state, microseconds).state;
+    }
+}

@@ -1,0 +1,53 @@
+//! The library against the second model: `differential [seed] [random cases]`.
+
+use std::process::ExitCode;
+
+use cases::counts::{goals, Counts};
+use cases::{explore, samples, Item, Outcome};
+use zeradok::Library;
+
+const SEED: u64 = 1;
+const CASES: usize = 400_000;
+
+fn main() -> ExitCode {
+    let mut arguments = std::env::args().skip(1).map(|text| text.parse::<u64>());
+    let (Ok(seed), Ok(cases)) =
+        (arguments.next().unwrap_or(Ok(SEED)), arguments.next().unwrap_or(Ok(CASES as u64)))
+    else {
+        eprintln!("usage: differential [seed] [random cases]");
+        return ExitCode::FAILURE;
+    };
+    let failing = samples::failing::<Library>();
+    if !failing.is_empty() {
+        println!("samples that fail: {failing:?}");
+    }
+    let mut counts = Counts::default();
+    let note = |item: &Item, outcome: &Outcome, buffer: &[u8]| counts.note(item, outcome, buffer);
+    if let Err(found) = explore::<Library>(seed, cases as usize, note) {
+        let found = found.traced::<Library>();
+        println!("seed {seed}, case {}, call {}", found.index, found.call);
+        println!("{}\n\n{}", found.what, found.case());
+        return ExitCode::FAILURE;
+    }
+    if all_met(&counts) && failing.is_empty() {
+        ExitCode::SUCCESS
+    } else {
+        ExitCode::FAILURE
+    }
+}
+
+/// Prints what was met, and tells whether all was met often enough.
+fn all_met(counts: &Counts) -> bool {
+    let mut all = true;
+    for goals in goals() {
+        let rarest = goals.each.iter().map(|met| counts.of(met)).min();
+        println!("{goals}; rarest {}", rarest.unwrap_or(0));
+        for met in goals.each {
+            if counts.of(&met) < goals.least {
+                println!("  too rare, {}: {met:?}", counts.of(&met));
+                all = false;
+            }
+        }
+    }
+    all
+}

@@ -1,0 +1,113 @@
+//! The eight calls of 01 and what they give back.
+
+/// A chip's state; `bp` is BP2 BP1 BP0 as a number, `left` the microseconds of BUSY left.
+#[repr(C)]
+#[derive(Clone, Copy, Debug, Default, PartialEq, Eq)]
+pub struct State {
+    pub chip: u8,
+    pub bp: u8,
+    pub tb: bool,
+    pub bpl: bool,
+    pub wel: bool,
+    pub aai: bool,
+    pub armed: bool,
+    pub power_down: bool,
+    pub left: u32,
+    pub next: u32,
+}
+
+#[derive(Clone, Copy, Debug, PartialEq, Eq)]
+pub struct Answer {
+    pub number: u32,
+    pub state: State,
+}
+
+#[derive(Clone, Copy, Debug, PartialEq, Eq)]
+pub struct Planned {
+    pub number: u32,
+    pub state: State,
+    pub length: u32,
+    pub frames: u32,
+    pub microseconds: u32,
+}
+
+#[derive(Clone, Copy, Debug, PartialEq, Eq)]
+pub struct Ran {
+    pub number: u32,
+    pub state: State,
+    pub frames: u32,
+    pub microseconds: u64,
+}
+
+/// One record of a script; `kind` is one of the constants of [`kind`].
+#[derive(Clone, Copy, Debug, Default, PartialEq, Eq)]
+pub struct Record {
+    pub number: u32,
+    pub kind: u32,
+    pub start: usize,
+    pub length: usize,
+    pub microseconds: u32,
+    pub next: usize,
+}
+
+/// What a record is.
+pub mod kind {
+    pub const REFUSED: u32 = 0;
+    pub const FRAME: u32 = 1;
+    pub const WAIT: u32 = 2;
+    pub const END: u32 = 3;
+}
+
+/// Somebody who answers the eight calls: this model, a wrong copy of it, or the library.
+pub trait Calls {
+    fn new_chip(chip: u8) -> Answer;
+    fn power_up(state: State) -> Answer;
+    fn wait(state: State, microseconds: u32) -> Answer;
+    fn frame(
+        state: &mut State,
+        wp_high: bool,
+        array: &mut [u8],
+        frame: &[u8],
+        output: &mut [u8],
+    ) -> u32;
+    fn cut_frame(
+        state: &mut State,
+        wp_high: bool,
+        array: &mut [u8],
+        frame: &[u8],
+        output: &mut [u8],
+        mask: &[u8],
+    ) -> u32;
+    fn plan(
+        state: State,
+        wp_high: bool,
+        array: &[u8],
+        start: usize,
+        wanted: &[u8],
+        buffer: &mut [u8],
+    ) -> Planned;
+    fn run(state: State, wp_high: bool, array: &mut [u8], script: &[u8], output: &mut [u8]) -> Ran;
+    fn read(script: &[u8], offset: usize) -> Record;
+}
+
+impl Answer {
+    pub(crate) fn accepted(state: State) -> Self {
+        Self { number: 0, state }
+    }
+
+    pub(crate) fn refused(number: u32, state: State) -> Self {
+        Self { number, state }
+    }
+}
+
+impl Planned {
+    pub(crate) fn refused(number: u32, state: State) -> Self {
+        Self { number, state, length: 0, frames: 0, microseconds: 0 }
+    }
+}
+
+impl Ran {
+    pub(crate) fn refused(number: u32, state: State) -> Self {
+        Self { number, state, frames: 0, microseconds: 0 }
+    }
+}

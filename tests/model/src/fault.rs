@@ -1,0 +1,60 @@
+//! The wrong copies.
+
+/// In what way a copy of the model is wrong. The right model has `None`; since the fault is a
+/// constant parameter, the right model pays nothing for the others.
+#[repr(u8)]
+#[derive(Clone, Copy, Debug, PartialEq, Eq)]
+pub enum Fault {
+    None,
+
+    // 01, "Readings that look right and aren't".
+    /// AAI keeps address bit 0.
+    AddressBitKept,
+    /// A programmed byte is stored instead of ANDed.
+    ByteStored,
+    /// WEL falls when the frame ends and not when BUSY does.
+    WelClearedAtFrameEnd,
+    /// A long page write runs into the next page.
+    PageRunsOn,
+    /// 05 may stand between 50 and 01.
+    StatusReadKeepsArmed,
+
+    // Others that are easily taken.
+    /// An ignored frame leaves armed as it was.
+    IgnoredKeepsArmed,
+    /// BPL alone, or WP low alone, locks the status register.
+    LockedByEither,
+    /// BP2 protects the 05PA.
+    Bp2Protects05pa,
+    /// The 05PA loses its protection bits at power-off.
+    ProtectionForgotten,
+    /// AAI goes on at the first protected address.
+    AaiPassesBorder,
+    /// The end of BUSY in AAI clears WEL.
+    WelClearedInAai,
+    /// The first byte for a page offset counts, not the last.
+    FirstPageByteCounts,
+    /// The mask of a wrapped page goes by the order sent.
+    MaskInSentOrder,
+    /// A byte outside the region is sent as the array has it, not as FF.
+    OutsideByteFromArray,
+    /// One unchanged word between two runs is bridged.
+    GapBridged,
+    /// Step 1 comes wherever the region touches protected bytes, changing or not.
+    UnchangedByteUnprotected,
+    /// Step 4 brings BPL back as 0.
+    LockNotRestored,
+    /// A plan looks at BPL and WP before it looks at the wanted bits.
+    LockCheckedBeforeBits,
+    /// A script is checked in the order 1, 2, 11, 4, 12.
+    OutputCheckedBeforeRecords,
+    /// The microseconds waited are summed in 32 bits.
+    WaitsWrap,
+}
+
+impl Fault {
+    /// Whether the copy with this fault number has this fault.
+    pub(crate) const fn within(self, number: u8) -> bool {
+        self as u8 == number
+    }
+}

@@ -1,0 +1,237 @@
+//! Frames (01, "Frames"): whether one is taken, and what it then does.
+
+use crate::chip::{Chip, Kind, SECTOR_TIME, WORD_TIME};
+use crate::effect::Effect;
+use crate::fault::Fault;
+use crate::reply::{self, PULL_UP};
+use crate::state::refusal;
+use crate::State;
+
+pub const LONGEST_FRAME: usize = 4_101;
+
+/// Why a frame is ignored; the first that holds.
+#[derive(Clone, Copy, Debug, PartialEq, Eq, PartialOrd, Ord)]
+pub enum Reason {
+    UnknownOpcode,
+    Busy,
+    InAai,
+    InPowerDown,
+    WrongLength,
+    NotArmed,
+    Locked,
+    WriteDisabled,
+    Protected,
+}
+
+/// The refusals that a whole and an interrupted frame share.
+pub fn accept<const FAULT: u8>(
+    state: &State,
+    array: &[u8],
+    frame: &[u8],
+    output: &[u8],
+) -> Result<&'static Chip, u32> {
+    let chip = state.sound_chip::<FAULT>().ok_or(refusal::STATE)?;
+    if array.len() != chip.size {
+        Err(refusal::ARRAY_LENGTH)
+    } else if frame.is_empty() || frame.len() > LONGEST_FRAME {
+        Err(refusal::FRAME_LENGTH)
+    } else if output.len() != frame.len() {
+        Err(refusal::OUTPUT_LENGTH)
+    } else {
+        Ok(chip)
+    }
+}
+
+/// The kind of a frame that is taken, or why it is ignored.
+#[inline(always)]
+pub fn verdict<const FAULT: u8>(
+    chip: &Chip,
+    state: &State,
+    wp_high: bool,
+    frame: &[u8],
+) -> Result<Kind, Reason> {
+    let kind = chip.kind(frame[0]);
+    if kind == Kind::Unknown {
+        return Err(Reason::UnknownOpcode);
+    }
+    if state.left > 0 && kind != Kind::ReadStatus {
+        return Err(Reason::Busy);
+    }
+    let in_aai = matches!(kind, Kind::WordProgram | Kind::ReadStatus | Kind::WriteDisable);
+    if state.aai && !in_aai {
+        return Err(Reason::InAai);
+    }
+    if state.power_down && kind != Kind::Signature {
+        return Err(Reason::InPowerDown);
+    }
+    if !fits(chip, state, kind, frame.len()) {
+        return Err(Reason::WrongLength);
+    }
+    match kind {
+        Kind::WriteStatus => {
+            let locked = if Fault::LockedByEither.within(FAULT) {
+                state.bpl || !wp_high
+            } else {
+                state.bpl && !wp_high
+            };
+            if !state.armed {
+                return Err(Reason::NotArmed);
+            }
+            if locked {
+                return Err(Reason::Locked);
+            }
+        }
+        Kind::EraseSector
+        | Kind::EraseBlock
+        | Kind::EraseChip
+        | Kind::Program
+        | Kind::WordProgram => {
+            // Protection borders are multiples of a block: one address decides for the target,
+            // for a chip erase the last.
+            let target = match kind {
+                Kind::EraseChip => chip.size - 1,
+                Kind::WordProgram => word_address::<FAULT>(chip, state, frame),
+                _ => address(chip, frame),
+            };
+            if !state.wel {
+                return Err(Reason::WriteDisabled);
+            }
+            if target >= state.first_protected::<FAULT>(chip) as usize {
+                return Err(Reason::Protected);
+            }
+        }
+        _ => {}
+    }
+    Ok(kind)
+}
+
+fn fits(chip: &Chip, state: &State, kind: Kind, length: usize) -> bool {
+    match kind {
+        Kind::WriteEnable
+        | Kind::WriteDisable
+        | Kind::EnableStatusWrite
+        | Kind::EraseChip
+        | Kind::PowerDown => length == 1,
+        Kind::WriteStatus => length == 2,
+        Kind::EraseSector | Kind::EraseBlock => length == 4,
+        Kind::Program if chip.pages => length >= 5,
+        Kind::Program => length == 5,
+        Kind::WordProgram => length == if state.aai { 3 } else { 6 },
+        _ => true,
+    }
+}
+
+/// The address a frame names; 0 where it is too short to name one.
+pub fn address(chip: &Chip, frame: &[u8]) -> usize {
+    match *frame {
+        [_, high, middle, low, ..] => {
+            chip.reduced(u32::from_be_bytes([0, high, middle, low]) as usize)
+        }
+        _ => 0,
+    }
+}
+
+/// Runs a frame on a sound chip.
+pub fn run<const FAULT: u8>(
+    chip: &Chip,
+    state: &mut State,
+    wp_high: bool,
+    array: &mut [u8],
+    frame: &[u8],
+    output: &mut [u8],
+) {
+    match verdict::<FAULT>(chip, state, wp_high, frame) {
+        Ok(kind) => {
+            reply::write(chip, state, kind, frame, array, output);
+            Effect::of::<FAULT>(chip, state, kind, frame).apply::<FAULT>(array);
+            take::<FAULT>(chip, state, kind, frame);
+        }
+        Err(_) => ignore::<FAULT>(state, output),
+    }
+}
+
+/// Runs it and cuts the power; refuses a mask that isn't as long as the frame's target.
+pub fn run_cut<const FAULT: u8>(
+    chip: &Chip,
+    state: &mut State,
+    wp_high: bool,
+    array: &mut [u8],
+    frame: &[u8],
+    output: &mut [u8],
+    mask: &[u8],
+) -> Result<(), u32> {
+    let verdict = verdict::<FAULT>(chip, state, wp_high, frame);
+    let effect =
+        verdict.map_or(Effect::Nothing, |kind| Effect::of::<FAULT>(chip, state, kind, frame));
+    if mask.len() != effect.length() {
+        return Err(refusal::MASK_LENGTH);
+    }
+    match verdict {
+        Ok(kind) => {
+            reply::write(chip, state, kind, frame, array, output);
+            effect.apply_cut::<FAULT>(array, mask);
+            take::<FAULT>(chip, state, kind, frame);
+        }
+        Err(_) => ignore::<FAULT>(state, output),
+    }
+    *state = state.powered_up::<FAULT>(chip);
+    Ok(())
+}
+
+fn ignore<const FAULT: u8>(state: &mut State, output: &mut [u8]) {
+    output.fill(PULL_UP);
+    state.armed &= Fault::IgnoredKeepsArmed.within(FAULT);
+}
+
+/// The state after a taken frame.
+#[inline(always)]
+fn take<const FAULT: u8>(chip: &Chip, state: &mut State, kind: Kind, frame: &[u8]) {
+    let was_armed = state.armed;
+    state.armed = false;
+    match kind {
+        Kind::Unknown | Kind::Read | Kind::FastRead | Kind::Jedec | Kind::ReadId => {}
+        Kind::ReadStatus => state.armed = was_armed && Fault::StatusReadKeepsArmed.within(FAULT),
+        Kind::Signature => state.power_down = false,
+        Kind::PowerDown => state.power_down = true,
+        Kind::WriteEnable => {
+            state.wel = true;
+            state.armed = true;
+        }
+        Kind::WriteDisable => {
+            state.wel = false;
+            state.aai = false;
+            state.next = 0;
+        }
+        Kind::EnableStatusWrite => state.armed = true,
+        Kind::WriteStatus => {
+            let byte = frame[1];
+            state.bp = byte >> 2 & 7;
+            state.tb = chip.tb && byte & 0x20 != 0;
+            state.bpl = byte & 0x80 != 0;
+            state.wel = false;
+        }
+        Kind::EraseSector => state.left = SECTOR_TIME,
+        Kind::EraseBlock => state.left = chip.block_time,
+        Kind::EraseChip => state.left = chip.chip_time,
+        Kind::Program => state.left = chip.program_time,
+        Kind::WordProgram => {
+            state.next = word_address::<FAULT>(chip, state, frame) as u32 + 2;
+            state.aai = true;
+            state.left = WORD_TIME;
+        }
+    }
+    if Fault::WelClearedAtFrameEnd.within(FAULT) && state.left > 0 {
+        state.wel = false;
+    }
+}
+
+/// Where a word goes: in AAI to the next address, else to the named one without bit 0.
+pub fn word_address<const FAULT: u8>(chip: &Chip, state: &State, frame: &[u8]) -> usize {
+    if state.aai {
+        state.next as usize
+    } else if Fault::AddressBitKept.within(FAULT) {
+        address(chip, frame)
+    } else {
+        address(chip, frame) & !1
+    }
+}

@@ -1,0 +1,124 @@
+//! A second model of the base, in plain Rust, written from the two data sheets and document 01
+//! alone. It is what the library is compared with, and the baseline its speed is measured by.
+//!
+//! `Model` is the right model; `Model<{ Fault::… as u8 }>` is a copy that is wrong in one way.
+#![no_std]
+
+mod calls;
+mod chip;
+mod effect;
+mod fault;
+mod frame;
+mod plan;
+mod records;
+mod reply;
+mod script;
+mod state;
+mod words;
+
+pub use calls::{kind, Answer, Calls, Planned, Ran, Record, State};
+pub use chip::{Chip, Kind};
+pub use fault::Fault;
+pub use frame::{Reason, LONGEST_FRAME};
+pub use plan::LONGEST_REGION;
+pub use script::LONGEST_SCRIPT;
+
+use effect::Effect;
+use state::refusal;
+
+const RIGHT: u8 = Fault::None as u8;
+
+/// The eight calls as this model answers them.
+pub struct Model<const FAULT: u8 = RIGHT>;
+
+impl<const FAULT: u8> Calls for Model<FAULT> {
+    fn new_chip(chip: u8) -> Answer {
+        match Chip::numbered(chip) {
+            Some(chip) => Answer::accepted(State::new(chip)),
+            None => Answer::refused(refusal::STATE, State::new(&chip::F25L05PA)),
+        }
+    }
+
+    fn power_up(state: State) -> Answer {
+        match state.sound_chip::<FAULT>() {
+            Some(chip) => Answer::accepted(state.powered_up::<FAULT>(chip)),
+            None => Answer::refused(refusal::STATE, state),
+        }
+    }
+
+    fn wait(state: State, microseconds: u32) -> Answer {
+        match state.sound_chip::<FAULT>() {
+            Some(chip) => Answer::accepted(state.after::<FAULT>(chip, microseconds)),
+            None => Answer::refused(refusal::STATE, state),
+        }
+    }
+
+    fn frame(
+        state: &mut State,
+        wp_high: bool,
+        array: &mut [u8],
+        frame: &[u8],
+        output: &mut [u8],
+    ) -> u32 {
+        match frame::accept::<FAULT>(state, array, frame, output) {
+            Ok(chip) => {
+                frame::run::<FAULT>(chip, state, wp_high, array, frame, output);
+                0
+            }
+            Err(number) => number,
+        }
+    }
+
+    fn cut_frame(
+        state: &mut State,
+        wp_high: bool,
+        array: &mut [u8],
+        frame: &[u8],
+        output: &mut [u8],
+        mask: &[u8],
+    ) -> u32 {
+        let ran = frame::accept::<FAULT>(state, array, frame, output).and_then(|chip| {
+            frame::run_cut::<FAULT>(chip, state, wp_high, array, frame, output, mask)
+        });
+        ran.err().unwrap_or(0)
+    }
+
+    fn plan(
+        state: State,
+        wp_high: bool,
+        array: &[u8],
+        start: usize,
+        wanted: &[u8],
+        buffer: &mut [u8],
+    ) -> Planned {
+        plan::plan::<FAULT>(state, wp_high, array, start, wanted, buffer)
+            .unwrap_or_else(|number| Planned::refused(number, state))
+    }
+
+    fn run(state: State, wp_high: bool, array: &mut [u8], script: &[u8], output: &mut [u8]) -> Ran {
+        script::run::<FAULT>(state, wp_high, array, script, output)
+            .unwrap_or_else(|number| Ran::refused(number, state))
+    }
+
+    fn read(script: &[u8], offset: usize) -> Record {
+        script::read(script, offset)
+    }
+}
+
+impl Model {
+    /// Whether a sound chip takes the frame, and if not, why; the frame has a byte at least.
+    pub fn verdict(state: &State, wp_high: bool, frame: &[u8]) -> Option<Result<Kind, Reason>> {
+        let chip = state.sound_chip::<RIGHT>()?;
+        Some(frame::verdict::<RIGHT>(chip, state, wp_high, frame))
+    }
+
+    /// How many array bytes the frame programs or erases on a sound chip.
+    pub fn target_length(state: &State, wp_high: bool, frame: &[u8]) -> Option<usize> {
+        let chip = state.sound_chip::<RIGHT>()?;
+        let length = match frame::verdict::<RIGHT>(chip, state, wp_high, frame) {
+            Ok(kind) => Effect::of::<RIGHT>(chip, state, kind, frame).length(),
+            Err(_) => 0,
+        };
+        Some(length)
+    }
+}

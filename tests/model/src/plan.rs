@@ -1,0 +1,169 @@
+//! Plans (01, "Scripts and plans").
+
+use crate::chip::{Chip, PAGE};
+use crate::fault::Fault;
+use crate::records::{Records, Totals, Writer};
+use crate::state::refusal;
+use crate::words::{Runs, Word};
+use crate::{Planned, State};
+
+pub const LONGEST_REGION: usize = 4_096;
+
+/// What is to become of the region.
+struct Update<'a> {
+    chip: &'a Chip,
+    state: State,
+    array: &'a [u8],
+    start: usize,
+    old: &'a [u8],
+    wanted: &'a [u8],
+    /// Whether step 1 comes, and with it step 4.
+    unprotects: bool,
+}
+
+pub fn plan<const FAULT: u8>(
+    state: State,
+    wp_high: bool,
+    array: &[u8],
+    start: usize,
+    wanted: &[u8],
+    buffer: &mut [u8],
+) -> Result<Planned, u32> {
+    let chip = state.sound_chip::<FAULT>().ok_or(refusal::STATE)?;
+    if array.len() != chip.size {
+        return Err(refusal::ARRAY_LENGTH);
+    }
+    if wanted.len() > LONGEST_REGION || start > chip.size || wanted.len() > chip.size - start {
+        return Err(refusal::REGION);
+    }
+    if !state.at_rest() {
+        return Err(refusal::NOT_AT_REST);
+    }
+    let old = &array[start..][..wanted.len()];
+    let touched = if Fault::UnchangedByteUnprotected.within(FAULT) {
+        old.len().checked_sub(1)
+    } else {
+        last_change(old, wanted)
+    };
+    let border = state.first_protected::<FAULT>(chip) as usize;
+    let unprotects = touched.is_some_and(|last| start + last >= border);
+    let locked = unprotects && state.bpl && !wp_high;
+    if Fault::LockCheckedBeforeBits.within(FAULT) && locked {
+        return Err(refusal::LOCKED);
+    }
+    let mut bytes = old.iter().zip(wanted);
+    if bytes.any(|(old, wanted)| wanted & !old != 0) {
+        return Err(refusal::NEEDS_ERASE);
+    }
+    if locked {
+        return Err(refusal::LOCKED);
+    }
+
+    let update = Update { chip, state, array, start, old, wanted, unprotects };
+    let mut totals = Totals::default();
+    update.records::<FAULT>(&mut totals);
+    if totals.length > buffer.len() {
+        return Err(refusal::ROOM);
+    }
+    update.records::<FAULT>(&mut Writer(buffer));
+    Ok(Planned {
+        number: 0,
+        state,
+        length: totals.length as u32,
+        frames: totals.frames,
+        microseconds: totals.microseconds,
+    })
+}
+
+impl Update<'_> {
+    fn records<const FAULT: u8>(&self, to: &mut impl Records) {
+        if self.old == self.wanted {
+            return;
+        }
+        let State { bp, tb, bpl, .. } = self.state;
+        if self.unprotects {
+            self.status_write(State { bp: 0, tb, bpl, ..State::default() }, to);
+        }
+        if self.chip.aai {
+            self.word_runs::<FAULT>(to);
+        } else {
+            self.pages(to);
+        }
+        if self.unprotects {
+            let bpl = bpl && !Fault::LockNotRestored.within(FAULT);
+            self.status_write(State { bp, tb, bpl, ..State::default() }, to);
+        }
+    }
+
+    /// Steps 1 and 4: arm, then write what the status register is to hold.
+    fn status_write(&self, register: State, to: &mut impl Records) {
+        to.frame(&[if self.chip.aai { 0x50 } else { 0x06 }], &[]);
+        to.frame(&[0x01, register.status()], &[]);
+    }
+
+    /// Step 2: the aligned words holding a changing byte, in runs of neighbours.
+    fn word_runs<const FAULT: u8>(&self, to: &mut impl Records) {
+        let mut runs = Runs::new(to);
+        self.words::<FAULT>().for_each(|word| runs.word::<FAULT>(word));
+        runs.close();
+    }
+
+    /// The aligned words of the region, as wanted; a byte outside the region is FF.
+    fn words<const FAULT: u8>(&self) -> impl Iterator<Item = Word> + '_ {
+        let outside = move |address: usize| match Fault::OutsideByteFromArray.within(FAULT) {
+            true => self.array[address],
+            false => 0xFF,
+        };
+        let single = |wanted: &[u8], old: &[u8]| match (wanted, old) {
+            ([wanted], [old]) => Some((*wanted, wanted != old)),
+            _ => None,
+        };
+        let odd = (self.start % 2).min(self.wanted.len());
+        let (first_old, old) = self.old.split_at(odd);
+        let (first_wanted, wanted) = self.wanted.split_at(odd);
+        let (pairs_old, last_old) = old.as_chunks::<2>();
+        let (pairs, last_wanted) = wanted.as_chunks::<2>();
+
+        let first = single(first_wanted, first_old).map(|(byte, changes)| {
+            let address = self.start - 1;
+            Word { address, bytes: [outside(address), byte], changes }
+        });
+        let middle = pairs.iter().zip(pairs_old).enumerate();
+        let middle = middle.map(move |(index, (wanted, old))| Word {
+            address: self.start + odd + 2 * index,
+            bytes: *wanted,
+            changes: wanted != old,
+        });
+        let last = single(last_wanted, last_old).map(|(byte, changes)| {
+            let address = self.start + self.wanted.len() - 1;
+            Word { address, bytes: [byte, outside(address + 1)], changes }
+        });
+        first.into_iter().chain(middle).chain(last)
+    }
+
+    /// Step 3: each page with a changing byte, from its first to its last.
+    fn pages(&self, to: &mut impl Records) {
+        let mut from = 0;
+        while from < self.wanted.len() {
+            let page_end = PAGE - (self.start + from) % PAGE;
+            let until = self.wanted.len().min(from + page_end);
+            let (old, wanted) = (&self.old[from..until], &self.wanted[from..until]);
+            if let (Some(first), Some(last)) = (first_change(old, wanted), last_change(old, wanted))
+            {
+                let [_, high, middle, low] = ((self.start + from + first) as u32).to_be_bytes();
+                to.frame(&[0x06], &[]);
+                to.frame(&[0x02, high, middle, low], &wanted[first..=last]);
+                to.wait(self.chip.program_time);
+            }
+            from = until;
+        }
+    }
+}
+
+fn first_change(old: &[u8], wanted: &[u8]) -> Option<usize> {
+    old.iter().zip(wanted).position(|(old, wanted)| old != wanted)
+}
+
+fn last_change(old: &[u8], wanted: &[u8]) -> Option<usize> {
+    old.iter().zip(wanted).rposition(|(old, wanted)| old != wanted)
+}

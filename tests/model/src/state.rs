@@ -1,0 +1,99 @@
+//! Soundness, status, power and time (01, "State").
+
+use crate::chip::{Chip, WORD_TIME};
+use crate::fault::Fault;
+use crate::State;
+
+/// Refusal numbers (01, "Refusal numbers, in the order checked").
+pub mod refusal {
+    pub const STATE: u32 = 1;
+    pub const ARRAY_LENGTH: u32 = 2;
+    pub const FRAME_LENGTH: u32 = 3;
+    pub const OUTPUT_LENGTH: u32 = 4;
+    pub const MASK_LENGTH: u32 = 5;
+    pub const REGION: u32 = 6;
+    pub const NOT_AT_REST: u32 = 7;
+    pub const NEEDS_ERASE: u32 = 8;
+    pub const LOCKED: u32 = 9;
+    pub const ROOM: u32 = 10;
+    pub const SCRIPT_LENGTH: u32 = 11;
+    pub const RECORD: u32 = 12;
+}
+
+impl State {
+    pub(crate) fn new(chip: &Chip) -> State {
+        State { chip: chip.number, bp: if chip.tb { 0 } else { 7 }, ..State::default() }
+    }
+
+    pub(crate) fn powered_up<const FAULT: u8>(&self, chip: &Chip) -> State {
+        if !chip.tb || Fault::ProtectionForgotten.within(FAULT) {
+            return State::new(chip);
+        }
+        State { bp: self.bp, tb: self.tb, bpl: self.bpl, ..State::new(chip) }
+    }
+
+    /// The first protected address; the size where nothing is protected. BP is at most 7.
+    pub(crate) fn first_protected<const FAULT: u8>(&self, chip: &Chip) -> u32 {
+        if Fault::Bp2Protects05pa.within(FAULT) && chip.tb && self.bp >= 4 {
+            return 0;
+        }
+        chip.first_protected[usize::from(self.bp & 7)]
+    }
+
+    /// The chip, if the state is sound.
+    pub(crate) fn sound_chip<const FAULT: u8>(&self) -> Option<&'static Chip> {
+        let chip = Chip::numbered(self.chip)?;
+        let own_bits = if chip.aai {
+            !self.tb && !self.power_down
+        } else {
+            !self.aai && (!self.armed || self.wel)
+        };
+        let busy = self.left > 0;
+        let sound = own_bits
+            && self.bp <= 7
+            && self.left <= chip.chip_time
+            && (!busy || self.wel && !self.armed && !self.power_down)
+            && !(self.armed && self.power_down)
+            && if self.aai { self.sound_in_aai::<FAULT>(chip) } else { self.next == 0 };
+        sound.then_some(chip)
+    }
+
+    fn sound_in_aai<const FAULT: u8>(&self, chip: &Chip) -> bool {
+        let border = self.first_protected::<FAULT>(chip);
+        self.wel
+            && !self.armed
+            && self.left <= WORD_TIME
+            && self.next.is_multiple_of(2)
+            && self.next >= 2
+            && (self.next < border || self.next == border && self.left > 0)
+    }
+
+    pub(crate) fn at_rest(&self) -> bool {
+        self.left == 0 && !self.aai && !self.power_down
+    }
+
+    /// The status register. TB and AAI are never set on the chip without them.
+    pub(crate) fn status(&self) -> u8 {
+        u8::from(self.left > 0)
+            | u8::from(self.wel) << 1
+            | self.bp << 2
+            | u8::from(self.tb) << 5
+            | u8::from(self.aai) << 6
+            | u8::from(self.bpl) << 7
+    }
+
+    /// The state when so many microseconds have passed.
+    pub(crate) fn after<const FAULT: u8>(&self, chip: &Chip, microseconds: u32) -> State {
+        let left = self.left.saturating_sub(microseconds);
+        if self.left == 0 || left > 0 {
+            return State { left, ..*self };
+        }
+        let goes_on =
+            Fault::AaiPassesBorder.within(FAULT) || self.next < self.first_protected::<FAULT>(chip);
+        if self.aai && goes_on {
+            let wel = !Fault::WelClearedInAai.within(FAULT);
+            return State { left, wel, ..*self };
+        }
+        State { left, wel: false, aai: false, next: 0, ..*self }
+    }
+}

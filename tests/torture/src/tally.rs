@@ -1,0 +1,133 @@
+//! How often what was met.
+
+use std::collections::BTreeMap;
+use std::fmt;
+
+use cases::CHIPS;
+
+use crate::setting::Setting;
+
+#[derive(Clone, Copy, Debug, PartialEq, Eq, PartialOrd, Ord)]
+enum Met {
+    /// A cut between two records, before the first or after the last.
+    Between { chip: u8, wp_high: bool, step_1: bool },
+    /// A cut inside a programming frame.
+    Inside { chip: u8, wp_high: bool, step_1: bool },
+    /// A cut, or a plan, of this sort.
+    Of { chip: u8, sort: Sort },
+    /// A second plan that needs all the room it is given.
+    AllRoomNeeded,
+    /// A second plan that has nothing left to do.
+    NothingLeft,
+}
+
+#[derive(Clone, Copy, Debug, PartialEq, Eq, PartialOrd, Ord)]
+enum Sort {
+    BeforeFirst,
+    AfterLast,
+    InFrameThatProgramsNothing,
+    OddStart,
+    OddEnd,
+    LongPlan,
+}
+
+const SORTS: [Sort; 6] = [
+    Sort::BeforeFirst,
+    Sort::AfterLast,
+    Sort::InFrameThatProgramsNothing,
+    Sort::OddStart,
+    Sort::OddEnd,
+    Sort::LongPlan,
+];
+
+/// How often each of `Met` has to come up.
+const LEAST: u64 = 40;
+
+#[derive(Default)]
+pub struct Tally(BTreeMap<Met, u64>);
+
+impl Tally {
+    fn count(&mut self, met: Met) {
+        *self.0.entry(met).or_default() += 1;
+    }
+
+    fn sort(&mut self, setting: &Setting, sort: Sort) {
+        let chip = setting.state.chip;
+        self.count(Met::Of { chip, sort });
+    }
+
+    pub fn plan(&mut self, setting: &Setting, records: usize) {
+        if records > 0 && setting.region().start % 2 == 1 {
+            self.sort(setting, Sort::OddStart);
+        }
+        if records > 0 && setting.region().end % 2 == 1 {
+            self.sort(setting, Sort::OddEnd);
+        }
+        if setting.region().len() >= 1_000 {
+            self.sort(setting, Sort::LongPlan);
+        }
+    }
+
+    pub fn between(&mut self, setting: &Setting, index: usize, records: usize) {
+        self.count(Met::Between {
+            chip: setting.state.chip,
+            wp_high: setting.wp_high,
+            step_1: setting.needs_step_1(),
+        });
+        if index == 0 {
+            self.sort(setting, Sort::BeforeFirst);
+        }
+        if index == records {
+            self.sort(setting, Sort::AfterLast);
+        }
+    }
+
+    pub fn inside(&mut self, setting: &Setting, programmed: usize) {
+        if programmed == 0 {
+            return self.sort(setting, Sort::InFrameThatProgramsNothing);
+        }
+        self.count(Met::Inside {
+            chip: setting.state.chip,
+            wp_high: setting.wp_high,
+            step_1: setting.needs_step_1(),
+        });
+    }
+
+    pub fn again(&mut self, length: usize, room: usize) {
+        if length == room {
+            self.count(Met::AllRoomNeeded);
+        }
+        if length == 0 {
+            self.count(Met::NothingLeft);
+        }
+    }
+
+    /// What came up less often than it has to.
+    pub fn too_rare(&self) -> Vec<String> {
+        let mut all = vec![Met::AllRoomNeeded, Met::NothingLeft];
+        for chip in CHIPS {
+            all.extend(SORTS.map(|sort| Met::Of { chip, sort }));
+            for (wp_high, step_1) in [(false, false), (false, true), (true, false), (true, true)] {
+                all.push(Met::Between { chip, wp_high, step_1 });
+                all.push(Met::Inside { chip, wp_high, step_1 });
+            }
+        }
+        all.into_iter()
+            .filter(|met| self.of(met) < LEAST)
+            .map(|met| format!("{met:?}, {} times instead of {LEAST}", self.of(&met)))
+            .collect()
+    }
+
+    fn of(&self, met: &Met) -> u64 {
+        self.0.get(met).copied().unwrap_or(0)
+    }
+}
+
+impl fmt::Display for Tally {
+    fn fmt(&self, to: &mut fmt::Formatter<'_>) -> fmt::Result {
+        for (met, times) in &self.0 {
+            writeln!(to, "{times:>8}  {met:?}")?;
+        }
+        Ok(())
+    }
+}

@@ -1,0 +1,256 @@
+//! One plan, cut everywhere, and planned again from there.
+
+use std::marker::PhantomData;
+
+use cases::literal::bytes_text;
+use cases::Rng;
+use model::{kind, Calls, Planned, State};
+
+use crate::setting::Setting;
+use crate::tally::Tally;
+
+/// Longer than any plan's script.
+const ROOMY: usize = 27_000;
+/// A plan with more records than this is cut at some of them only, about so many.
+const RECORDS_ALL_CUT: usize = 500;
+const RECORDS_CUT: usize = 100;
+/// Bytes around the region that are looked at after each cut; all are after each plan.
+const AROUND: usize = 300;
+
+pub struct Trial<'a, C> {
+    setting: &'a Setting,
+    array: &'a mut [u8],
+    before: &'a [u8],
+    more_room: usize,
+    calls: PhantomData<C>,
+}
+
+/// A record of a script: where it stands, and its frame's bytes.
+struct Record {
+    from: usize,
+    until: usize,
+    frame: Option<(usize, usize)>,
+}
+
+impl<'a, C: Calls> Trial<'a, C> {
+    pub fn new(
+        setting: &'a Setting,
+        array: &'a mut [u8],
+        before: &'a [u8],
+        more_room: usize,
+    ) -> Self {
+        Self { setting, array, before, more_room, calls: PhantomData }
+    }
+
+    /// Leaves the region as wanted.
+    pub fn go(mut self, rng: &mut Rng, tally: &mut Tally) -> Result<(), String> {
+        let mut state = self.setting.state;
+        let (first, script) = self.plan(state, ROOMY)?;
+        self.check_room(&script)?;
+        let records = records::<C>(&script)?;
+        tally.plan(self.setting, records.len());
+        self.finish(state, &first, &script)?;
+        self.restore(&self.setting.old.clone());
+
+        let step = match records.len() {
+            0..=RECORDS_ALL_CUT => 1,
+            many => many / RECORDS_CUT,
+        };
+        let offset = rng.below(step);
+        for index in 0..=records.len() {
+            let record = records.get(index);
+            let edge = index == 0 || record.is_none();
+            if edge || index % step == offset {
+                let so_far = self.array[self.setting.region()].to_vec();
+                let powered = C::power_up(state);
+                accepted(powered.number, "the power-up")?;
+                self.again(powered.state, script.len(), tally)
+                    .map_err(|what| format!("cut before record {index}: {what}"))?;
+                self.restore(&so_far);
+                tally.between(self.setting, index, records.len());
+                if let Some((start, length)) = record.and_then(|record| record.frame) {
+                    let frame = &script[start..][..length];
+                    self.cut_inside(state, frame, script.len(), rng, tally)
+                        .map_err(|what| format!("cut inside record {index}, {what}"))?;
+                }
+            }
+            if let Some(record) = record {
+                state = self.run(state, &script[record.from..record.until])?;
+            }
+        }
+        Ok(())
+    }
+
+    /// Cuts inside a frame, if it programs with several masks.
+    fn cut_inside(
+        &mut self,
+        state: State,
+        frame: &[u8],
+        first_length: usize,
+        rng: &mut Rng,
+        tally: &mut Tally,
+    ) -> Result<(), String> {
+        let so_far = self.array[self.setting.region()].to_vec();
+        let programmed = programmed(frame);
+        let mut output = vec![0; frame.len()];
+        for round in 0..if programmed > 0 { 4 } else { 1 } {
+            let mask = match round {
+                0 => vec![0x00; programmed],
+                1 => vec![0xFF; programmed],
+                _ => rng.bytes(programmed),
+            };
+            let mut cut = state;
+            let wp_high = self.setting.wp_high;
+            let number = C::cut_frame(&mut cut, wp_high, self.array, frame, &mut output, &mask);
+            accepted(number, "the cut frame")
+                .and_then(|()| self.again(cut, first_length, tally))
+                .map_err(|what| format!("mask {}: {what}", bytes_text(&mask)))?;
+            self.restore(&so_far);
+            tally.inside(self.setting, programmed);
+        }
+        Ok(())
+    }
+
+    /// After a cut: every bit is old or wanted, and a second plan is accepted and finishes.
+    fn again(
+        &mut self,
+        state: State,
+        first_length: usize,
+        tally: &mut Tally,
+    ) -> Result<(), String> {
+        let Setting { old, wanted, .. } = self.setting;
+        let now = &self.array[self.setting.region()];
+        for ((now, old), wanted) in now.iter().zip(old).zip(wanted) {
+            if (now ^ old) & (now ^ wanted) != 0 {
+                return Err("a bit neither old nor wanted after a cut".into());
+            }
+        }
+        self.check_around("after a cut")?;
+        let room = first_length + self.more_room;
+        let (planned, script) = self.plan(state, room)?;
+        tally.again(script.len(), room);
+        self.finish(state, &planned, &script)
+    }
+
+    /// Runs a plan uncut: the region is then as wanted, all else as it was.
+    fn finish(&mut self, state: State, planned: &Planned, script: &[u8]) -> Result<(), String> {
+        let mut output = vec![0; output_length::<C>(script)?];
+        let wp_high = self.setting.wp_high;
+        let ran = C::run(state, wp_high, self.array, script, &mut output);
+        accepted(ran.number, "the run")?;
+        let counts = (ran.frames, ran.microseconds);
+        if counts != (planned.frames, u64::from(planned.microseconds)) {
+            return Err("the run's counts aren't the plan's".into());
+        }
+        let rested = match script {
+            [] => state,
+            _ => State { wel: false, armed: false, ..state },
+        };
+        if planned.state != state || ran.state != rested {
+            return Err(format!("state after the plan or its run: {:?}", ran.state));
+        }
+        if self.array[self.setting.region()] != self.setting.wanted {
+            return Err("the region isn't as wanted after the run".into());
+        }
+        self.check_around("after a run")
+    }
+
+    fn plan(&mut self, state: State, room: usize) -> Result<(Planned, Vec<u8>), String> {
+        let Setting { wp_high, start, wanted, .. } = self.setting;
+        let mut buffer = vec![0; room];
+        let planned = C::plan(state, *wp_high, self.array, *start, wanted, &mut buffer);
+        accepted(planned.number, "the plan")?;
+        buffer.truncate(planned.length as usize);
+        Ok((planned, buffer))
+    }
+
+    /// Room for the script is enough, one byte less is not.
+    fn check_room(&mut self, script: &[u8]) -> Result<(), String> {
+        let (_, same) = self.plan(self.setting.state, script.len())?;
+        let refused = match script.len().checked_sub(1) {
+            Some(less) => {
+                self.plan(self.setting.state, less).is_err_and(|what| what.ends_with("refusal 10"))
+            }
+            None => true,
+        };
+        if same == script && refused {
+            Ok(())
+        } else {
+            Err("the plan's room isn't its length".into())
+        }
+    }
+
+    /// Runs a part of the script.
+    fn run(&mut self, state: State, part: &[u8]) -> Result<State, String> {
+        let mut output = vec![0; output_length::<C>(part)?];
+        let ran = C::run(state, self.setting.wp_high, self.array, part, &mut output);
+        accepted(ran.number, "a record's run")?;
+        Ok(ran.state)
+    }
+
+    fn restore(&mut self, region: &[u8]) {
+        self.array[self.setting.region()].copy_from_slice(region);
+    }
+
+    fn check_around(&self, when: &str) -> Result<(), String> {
+        let region = self.setting.region();
+        let below = region.start.saturating_sub(AROUND)..region.start;
+        let above = region.end..(region.end + AROUND).min(self.array.len());
+        if self.array[below.clone()] == self.before[below]
+            && self.array[above.clone()] == self.before[above]
+        {
+            Ok(())
+        } else {
+            Err(format!("the array moved beside the region {when}"))
+        }
+    }
+}
+
+/// How many bytes a plan's frame programs.
+fn programmed(frame: &[u8]) -> usize {
+    match (frame[0], frame.len()) {
+        (0xAD, _) => 2,
+        (0x02, length) => length - 4,
+        _ => 0,
+    }
+}
+
+fn records<C: Calls>(script: &[u8]) -> Result<Vec<Record>, String> {
+    let mut records = Vec::new();
+    let mut from = 0;
+    loop {
+        let record = C::read(script, from);
+        accepted(record.number, "the reader")?;
+        if record.kind == kind::END {
+            return Ok(records);
+        }
+        records.push(Record {
+            from,
+            until: record.next,
+            frame: (record.kind == kind::FRAME).then_some((record.start, record.length)),
+        });
+        from = record.next;
+    }
+}
+
+fn output_length<C: Calls>(script: &[u8]) -> Result<usize, String> {
+    let mut at = 0;
+    let mut length = 0;
+    loop {
+        let record = C::read(script, at);
+        accepted(record.number, "the reader")?;
+        if record.kind == kind::END {
+            return Ok(length);
+        }
+        length += record.length;
+        at = record.next;
+    }
+}
+
+fn accepted(number: u32, what: &str) -> Result<(), String> {
+    if number == 0 {
+        Ok(())
+    } else {
+        Err(format!("{what} met refusal {number}"))
+    }
+}
