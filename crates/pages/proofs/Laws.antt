@@ -1,0 +1,4 @@
+pub mod Spans
+pub mod Parts
+pub mod Pages
+pub mod Walk

@@ -1,0 +1,151 @@
+-- The laws of step 3: what it counts, how long it can be, that its records fit, and that it is nothing exactly where nothing changes.
+-- Assumes nothing.
+use mathlib.Core.Path.{_≡_, refl, sym, ap, _∙_}
+use mathlib.Core.Bool.{Bool, false, true≢false}
+use mathlib.Core.List.{List, [], _++_}
+use mathlib.Core.Logic.{⊎-elim}
+use Prim.Native.Nat.{ℕ, zero, suc, _+_, _-_, _*_, _≤_, _<_}
+use native.Mathlib.Omega.{arith}
+use lib.Dec.{ltb}
+use lib.ListN.{length}
+use borrow.Author.Tests.{lt-ltb}
+use Rattle.common.proofs.Laws.Lists.{split, length-tab}
+use Rattle.record.specs.Record.{Record, AllFit, scriptLength, framesIn, microsecondsIn}
+use Rattle.record.proofs.Laws.Records.{script-length-append, frames-append, microseconds-append, all-fit-append}
+use Rattle.state.specs.Status.{bit}
+use Rattle.steps.specs.Measure.{measureOf}
+use Rattle.steps.proofs.Laws.Flags.{bit-le}
+use Rattle.pages.specs.Pages.{beforeFirst, throughLast, partLength, partRecords, pagesStep}
+use Rattle.pages.specs.Parts.{pageCount, byteCount}
+use Rattle.pages.proofs.Laws.Spans.{first-false, last-le, last-true, last-false, last-none}
+
+-- ---- one page
+
+module _ (w : ℕ → ℕ) (address : ℕ) where
+  part-script : (n : ℕ) → scriptLength (partRecords w address n) ≡ 19 * bit (ltb 0 n) 1 + n
+  unfolding partRecords scriptLength
+  part-script zero = refl
+  part-script (suc n) = rw (lt-ltb 0 (suc n) (omega arith)) (omega (arith, length-tab n (λ (k : ℕ). w (address + suc k))))
+
+  part-frames : (n : ℕ) → framesIn (partRecords w address n) ≡ 2 * bit (ltb 0 n) 1
+  unfolding partRecords framesIn
+  part-frames zero = refl
+  part-frames (suc n) = rw (lt-ltb 0 (suc n) (omega arith)) refl
+
+  part-microseconds : (n : ℕ) → microsecondsIn (partRecords w address n) ≡ 1500 * bit (ltb 0 n) 1
+  unfolding partRecords microsecondsIn
+  part-microseconds zero = refl
+  part-microseconds (suc n) = rw (lt-ltb 0 (suc n) (omega arith)) refl
+
+  part-fits : (n : ℕ) → n ≤ 256 → AllFit (partRecords w address n)
+  unfolding partRecords
+  part-fits zero h = tt
+  part-fits (suc n) h =
+      let long = length-tab n (λ (k : ℕ). w (address + suc k)) in
+      ((omega arith, omega arith), ((omega arith, omega arith), (omega arith, tt)))
+
+-- no records: no bytes
+part-none : (w : ℕ → ℕ) (address n : ℕ) (rs : List Record) → partRecords w address n ++ rs ≡ [] → n ≡ 0
+unfolding partRecords
+part-none w address zero rs e = refl
+part-none w address (suc n) rs e = let some = ap length e in absurd (omega arith)
+
+behind-none : (w : ℕ → ℕ) (address n : ℕ) (rs : List Record) → n ≡ 0 → partRecords w address n ++ rs ≡ [] → rs ≡ []
+unfolding partRecords
+behind-none w address n rs z e = rw z at e
+
+part-unchanged : (d : ℕ → Bool) (page : ℕ) → partLength d page ≡ 0 → (k : ℕ) → page ≤ k → k < page + 256 → d k ≡ false
+unfolding partLength
+part-unchanged d page none k h l =
+    let m = last-le d 256 page in
+    ⊎-elim
+    (λ p. absurd (true≢false (sym (last-true d 256 page p) ∙ first-false d 256 page (page + throughLast d 256 page - 1) (omega arith) (omega arith))))
+    (λ p. last-false d 256 page k (omega arith) l) (split 0 (throughLast d 256 page))
+
+-- ---- step 3
+
+part-le : (d : ℕ → Bool) (page : ℕ) → partLength d page ≤ 256
+unfolding partLength
+part-le d page = omega (arith, last-le d 256 page)
+
+pub pages-le : (d : ℕ → Bool) (n page : ℕ) → pageCount d n page ≤ n
+unfolding pageCount
+pages-le d zero page = omega arith
+pages-le d (suc n) page = omega (arith, pages-le d n (page + 256), bit-le (ltb 0 (partLength d page)) 1)
+
+pub bytes-le : (d : ℕ → Bool) (n page : ℕ) → byteCount d n page ≤ 256 * n
+unfolding byteCount
+bytes-le d zero page = omega arith
+bytes-le d (suc n) page = omega (arith, bytes-le d n (page + 256), part-le d page)
+
+module _ (w : ℕ → ℕ) (d : ℕ → Bool) where
+  abbrev part : ℕ → List Record
+  part page = partRecords w (page + beforeFirst d 256 page) (partLength d page)
+
+  pages-length : (n page : ℕ) → scriptLength (pagesStep w d n page) ≡ 19 * pageCount d n page + byteCount d n page
+  unfolding pagesStep pageCount byteCount scriptLength
+  pages-length zero page = refl
+  pages-length (suc n) page =
+      omega (
+        arith,
+        script-length-append (part page) (pagesStep w d n (page + 256)),
+        part-script w (page + beforeFirst d 256 page) (partLength d page),
+        pages-length n (page + 256),
+      )
+
+  pages-frames : (n page : ℕ) → framesIn (pagesStep w d n page) ≡ 2 * pageCount d n page
+  unfolding pagesStep pageCount framesIn
+  pages-frames zero page = refl
+  pages-frames (suc n) page =
+      omega (
+        arith,
+        frames-append (part page) (pagesStep w d n (page + 256)),
+        part-frames w (page + beforeFirst d 256 page) (partLength d page),
+        pages-frames n (page + 256),
+      )
+
+  pages-microseconds : (n page : ℕ) → microsecondsIn (pagesStep w d n page) ≡ 1500 * pageCount d n page
+  unfolding pagesStep pageCount microsecondsIn
+  pages-microseconds zero page = refl
+  pages-microseconds (suc n) page =
+      omega (
+        arith,
+        microseconds-append (part page) (pagesStep w d n (page + 256)),
+        part-microseconds w (page + beforeFirst d 256 page) (partLength d page),
+        pages-microseconds n (page + 256),
+      )
+
+  pub pages-step-measure : (n page : ℕ) → measureOf (pagesStep w d n page) ≡ record {
+    length = 19 * pageCount d n page + byteCount d n page;
+    frames = 2 * pageCount d n page;
+    microseconds = 1500 * pageCount d n page;
+  }
+  unfolding measureOf
+  pages-step-measure n page = rw (pages-length n page, pages-frames n page, pages-microseconds n page) refl
+
+  pub pages-step-fits : (n page : ℕ) → AllFit (pagesStep w d n page)
+  unfolding pagesStep
+  pages-step-fits zero page = tt
+  pages-step-fits (suc n) page =
+      all-fit-append (part page) (pagesStep w d n (page + 256)) (part-fits w (page + beforeFirst d 256 page) (partLength d page) (part-le d page))
+      (pages-step-fits n (page + 256))
+
+  pub pages-step-le : (n page : ℕ) → scriptLength (pagesStep w d n page) ≤ 275 * n
+  pages-step-le n page = omega (arith, pages-length n page, pages-le d n page, bytes-le d n page)
+
+  -- nothing changes
+  pub pages-step-none : (n page : ℕ) → ((k : ℕ) → d k ≡ false) → pagesStep w d n page ≡ []
+  unfolding pagesStep partLength partRecords
+  pages-step-none zero page h = refl
+  pages-step-none (suc n) page h =
+      let z : throughLast d 256 page - beforeFirst d 256 page ≡ 0 = omega (arith, last-none d 256 page (λ k i j. h k)) in
+      rw z (pages-step-none n (page + 256) h)
+
+  -- and where there are no records, no byte of the pages changes
+  pub pages-step-unchanged : (n page : ℕ) → pagesStep w d n page ≡ [] → (k : ℕ) → page ≤ k → k < page + 256 * n → d k ≡ false
+  unfolding pagesStep
+  pages-step-unchanged zero page e k h l = absurd (omega arith)
+  pages-step-unchanged (suc n) page e k h l =
+      let none : partLength d page ≡ 0 = part-none w (page + beforeFirst d 256 page) (partLength d page) (pagesStep w d n (page + 256)) e in
+      let rest = pages-step-unchanged n (page + 256) (behind-none w (page + beforeFirst d 256 page) (partLength d page) (pagesStep w d n (page + 256)) none e) k in
+      ⊎-elim (λ p. part-unchanged d page none k h p) (λ p. rest p (omega arith)) (split k (page + 256))

@@ -1,0 +1,4 @@
+pub mod Exactly
+pub mod Plan
+pub mod Refusals
+pub mod Update

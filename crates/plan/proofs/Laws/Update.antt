@@ -1,0 +1,85 @@
+-- What planning an update answers: as a refusal, as an accepted plan, and that two answers to one call are equal.
+-- Assumes nothing.
+use mathlib.Core.Path.{_≡_, refl, sym, _∙_}
+use mathlib.Core.Bool.{Bool}
+use mathlib.Core.List.{List, []}
+use Prim.Native.Nat.{ℕ, _<_}
+use native.Mathlib.Omega.{arith}
+use lib.ListN.{length}
+use borrow.Author.Tests.{ne-eqb}
+use Rattle.record.specs.Record.{Record, encode, framesIn, microsecondsIn}
+use Rattle.record.proofs.Laws.Records.{encoded-length}
+use Rattle.state.specs.declared.State.{State}
+use Rattle.steps.specs.declared.measure.Measure.{Measure}
+use Rattle.steps.specs.Buffer.{written}
+use Rattle.steps.specs.Measure.{measureOf}
+use Rattle.steps.proofs.Laws.Buffer.{written-front}
+use Rattle.plan.specs.declared.Planned.{Planned}
+use Rattle.plan.specs.Plan.{planRecords}
+use Rattle.plan.specs.Refusals.{planRefusal}
+use Rattle.plan.specs.Update.{givenRecords, refusedPlan, PlanUpdated}
+
+-- the length that was measured is that of the script
+pub measured-length : (rs : List Record) (m : Measure) → m ≡ measureOf rs → m .length ≡ length (encode rs)
+unfolding measureOf
+measured-length rs m e = rw e (sym (encoded-length rs))
+
+module _ (s : State) (wp : Bool) (array : List ℕ) (start : ℕ) (wanted buffer : List ℕ) where
+  abbrev number : ℕ
+  number = planRefusal s wp array start wanted (length buffer)
+
+  nothing-given : 0 < number → givenRecords s wp array start wanted (length buffer) ≡ []
+  unfolding givenRecords
+  nothing-given h = rw (ne-eqb number 0 (λ e. omega arith)) refl
+
+  plan-given : number ≡ 0 → givenRecords s wp array start wanted (length buffer) ≡ planRecords s array start wanted
+  unfolding givenRecords
+  plan-given e = rw e refl
+
+  -- "A refusal changes no buffer and returns the given state, length and counts 0"
+  pub plan-refused : (n : ℕ) → 0 < n → number ≡ n → PlanUpdated s wp array start wanted buffer buffer (refusedPlan n s)
+  unfolding encode framesIn microsecondsIn
+  plan-refused n h e =
+      let none = nothing-given (rw e h) in
+      record {
+        number = sym e;
+        state = refl;
+        length = rw none refl;
+        frames = rw none refl;
+        microseconds = rw none refl;
+        buffer-after = rw none refl;
+      }
+
+  pub plan-accepted : number ≡ 0 → (m : Measure) → m ≡ measureOf (planRecords s array start wanted)
+      → (after : List ℕ) → after ≡ written 0 (encode (planRecords s array start wanted)) buffer
+      → PlanUpdated s wp array start wanted buffer after record { number = 0; state = s; length = m .length; frames = m .frames; microseconds = m .microseconds }
+  unfolding measureOf
+  plan-accepted e m q after w =
+      let given = plan-given e in
+      record {
+        number = sym e;
+        state = refl;
+        length = rw (given, q) (sym (encoded-length (planRecords s array start wanted)));
+        frames = rw (given, q) refl;
+        microseconds = rw (given, q) refl;
+        buffer-after = rw given (w ∙ written-front (encode (planRecords s array start wanted)) buffer);
+      }
+
+  -- the statement determines the answer and the whole buffer
+  pub plan-update-determined : (after₁ after₂ : List ℕ) (r₁ r₂ : Planned) → PlanUpdated s wp array start wanted buffer after₁ r₁
+      → PlanUpdated s wp array start wanted buffer after₂ r₂ → (r₁ ≡ r₂) × (after₁ ≡ after₂)
+  plan-update-determined after₁ after₂ r₁ r₂ p q = (
+    λ i. record {
+      number = (p .number ∙ sym (q .number)) i;
+      state = (p .state ∙ sym (q .state)) i;
+      length = (p .length ∙ sym (q .length)) i;
+      frames = (p .frames ∙ sym (q .frames)) i;
+      microseconds = (p .microseconds ∙ sym (q .microseconds)) i;
+    },
+    p .buffer-after ∙ sym (q .buffer-after),
+  )
+
+  -- so a refusal leaves every byte of the buffer and says nothing but its number
+  pub refused-untouched : (after : List ℕ) (r : Planned) → PlanUpdated s wp array start wanted buffer after r → 0 < r .number
+      → (r ≡ refusedPlan (r .number) s) × (after ≡ buffer)
+  refused-untouched after r p h = plan-update-determined after buffer r (refusedPlan (r .number) s) p (plan-refused (r .number) h (sym (p .number)))

@@ -1,0 +1,23 @@
+-- `plan::measure_plan` meets its contract: steps 1 and 4 are added to what stands between them.
+-- Assumes nothing.
+use mathlib.Core.Path.{sym, _∙_}
+use borrow.Author.Needs.{needs}
+use Rattle.plan.proofs.Laws.Plan.{program-small, plan-measure}
+use Rattle.plan.proofs.measure_plan.Statement.{statement}
+use Rattle.plan.proofs.measure_plan.Tie as tie
+
+chip-of-requires : tie.Need-chip-of-requires
+chip-of-requires c κs = search needs
+
+measure-program-requires : tie.Need-measure-program-requires
+measure-program-requires c κs = search needs
+
+with-status-requires : tie.Need-with-status-requires
+with-status-requires c κs = rw (c .measure-program .ensures) (program-small _ _ _ _ (c .before .before .before .before .pre .0 .short))
+
+returns : tie.Need-returns
+returns c = rw (c .before .measure-program .ensures, c .before .before .chip-of .ensures, c .before .before .before .before .before .pre .1) at (c .with-status .ensures) ∙ sym (plan-measure _ _ _ _)
+
+pub measure-plan-spec : {M : Type 1} → statement M
+measure-plan-spec =
+    tie.close (tie.spec chip-of-requires measure-program-requires with-status-requires returns)

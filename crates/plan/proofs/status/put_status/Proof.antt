@@ -1,0 +1,68 @@
+-- `plan::status::put_status` meets its contract: nothing, or the two records one behind the other.
+-- Assumes nothing.
+use native.Mathlib.Omega.{arith}
+use borrow.Author.Tests.{not-true, not-false}
+use borrow.Author.Needs.{needs}
+use Rattle.record.specs.Record.{encode}
+use Rattle.steps.proofs.Laws.Buffer.{Whole, left-start, record-room, record-turn, records-done, put-none}
+use Rattle.plan.specs.Plan.{statusRecords}
+use Rattle.plan.proofs.status.put_status.Statement.{statement}
+use Rattle.plan.proofs.status.put_status.Tie as tie
+
+-- it is needed: all of it is left before the first call
+begun : (c : tie.Else1) → let a = c .before .before .args in Whole (a .at) (encode (statusRecords (a .s) (a .bp))) (a .buffer .now)
+begun c = left-start _ _ _ (rw (not-false (c .before .before .args .needed) (c .if1 .left)) at (c .before .before .pre .1))
+
+returns : tie.Need-returns
+unfolding encode
+returns c = rw (not-true (c .before .before .args .needed) (c .if1 .taken)) (put-none _ _)
+
+arming-requires : tie.Need-arming-requires
+arming-requires c κs = search needs
+
+slice-aggregate-put-frame : tie.Need-slice-aggregate-put-frame
+slice-aggregate-put-frame c = search needs
+
+put-frame-requires : tie.Need-put-frame-requires
+unfolding statusRecords
+put-frame-requires c κs =
+    (omega arith, rw (c .before .before .arming .ensures) (record-room _ _ (begun (c .before .before .before))))
+
+status-byte-requires : tie.Need-status-byte-requires
+status-byte-requires c κs = search needs
+
+slice-aggregate-put-frame-2 : tie.Need-slice-aggregate-put-frame-2
+slice-aggregate-put-frame-2 c = search needs
+
+put-frame-requires-2 : tie.Need-put-frame-requires-2
+unfolding statusRecords
+put-frame-requires-2 c κs = (
+  omega arith,
+  rw (c .before .before .status-byte .ensures)
+      (record-room _ _ (record-turn _ _ (begun (c .before .before .before .before .before .before .before .before .before))
+      (rw (c .before .before .before .before .before .before .before .before .arming .ensures) at (c .before .before .before .before .before .put-frame .ensures)))),
+)
+
+same-length : tie.Need-same-length
+same-length c = search needs
+
+returns-2 : tie.Need-returns-2
+unfolding statusRecords
+returns-2 c =
+    rw (not-false (c .before .before .before .before .before .before .before .before .before .before .before .before .before .before .args .needed) (c .before .before .before .before .before .before .before .before .before .before .before .before .if1 .left))
+    (records-done (record-turn _ _ (record-turn _ _ (begun (c .before .before .before .before .before .before .before .before .before .before .before .before))
+    (rw (c .before .before .before .before .before .before .before .before .before .before .before .arming .ensures) at (c .before .before .before .before .before .before .before .before .put-frame .ensures))) (rw (c .before .before .before .before .before .status-byte .ensures) at (c .before .before .put-frame2 .ensures))))
+
+pub put-status-spec : {M : Type 1} → statement M
+put-status-spec =
+    tie.close
+    (tie.spec
+    returns
+    arming-requires
+    slice-aggregate-put-frame
+    put-frame-requires
+    status-byte-requires
+    slice-aggregate-put-frame-2
+    put-frame-requires-2
+    same-length
+    returns-2)

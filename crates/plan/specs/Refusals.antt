@@ -1,0 +1,60 @@
+-- The refusals of a plan, in the order checked (01, "Refusal numbers").
+use mathlib.Core.Path.{_≡_}
+use mathlib.Core.Bool.{Bool, true, false, not, _&&_, _||_}
+use mathlib.Core.List.{List, [], _∷_, _++_}
+use Prim.Native.Nat.{ℕ, _+_, _≤_}
+use lib.Dec.{ltb, eqb}
+use lib.ListN.{length}
+use Rattle.common.specs.Refusals.{firstOf}
+use Rattle.record.specs.Record.{encode}
+use Rattle.state.specs.declared.State.{State}
+use Rattle.state.specs.State.{dataOf}
+use Rattle.state.specs.Soundness.{isSound, isBusy}
+use Rattle.steps.specs.Region.{anyOf, rises}
+use Rattle.plan.specs.Plan.{stepOneNeeded, planRecords}
+
+-- "up to 4,096 wanted bytes"
+abbrev pub longestWanted : ℕ
+longestWanted = 4096
+
+-- those that ask neither for the WP level nor for the buffer
+abbrev pub regionRefusals : State → List ℕ → ℕ → List ℕ → List (ℕ × Bool)
+regionRefusals s array start wanted =
+    (1, not (isSound s))  -- "state not sound, or chip number unknown"
+    ∷ (2, not (eqb (length array) (dataOf s .size)))  -- "array length isn't the chip's size"
+    ∷ (6, ltb longestWanted (length wanted) || ltb (dataOf s .size) (start + length wanted))  -- "over 4,096 wanted bytes, or start plus length above the size"
+    ∷ (7, isBusy s || s .aai || s .down)  -- "not at rest: busy, AAI or power-down"
+    ∷ (8, anyOf (rises array start wanted) (length wanted) start)  -- "a wanted 1 where the array has 0"
+    ∷ []
+
+-- those that do
+abbrev pub scriptRefusals : State → Bool → List ℕ → ℕ → List ℕ → ℕ → List (ℕ × Bool)
+scriptRefusals s wp array start wanted room =
+    (9, stepOneNeeded s array start wanted && s .bpl && not wp)  -- "step 1 needed, BPL 1, WP low"
+    ∷ (10, ltb room (length (encode (planRecords s array start wanted))))  -- "script longer than the buffer"
+    ∷ []
+
+abbrev pub planRefusals : State → Bool → List ℕ → ℕ → List ℕ → ℕ → List (ℕ × Bool)
+planRefusals s wp array start wanted room = regionRefusals s array start wanted ++ scriptRefusals s wp array start wanted room
+
+-- the call's number: 0 where no refusal holds
+unfoldable pub planRefusal : State → Bool → List ℕ → ℕ → List ℕ → ℕ → ℕ
+planRefusal s wp array start wanted room = firstOf (planRefusals s wp array start wanted room)
+
+-- ---- an accepted plan in words
+
+-- what is accepted whatever the WP level and the buffer are
+pub record RegionAccepted (s : State) (array : List ℕ) (start : ℕ) (wanted : List ℕ) : Type 0 where
+  pub sound : isSound s ≡ true
+  pub sized : length array ≡ dataOf s .size
+  pub short : length wanted ≤ longestWanted
+  pub fits : start + length wanted ≤ dataOf s .size
+  pub ready : s .left ≡ 0
+  pub no-aai : s .aai ≡ false
+  pub awake : s .down ≡ false
+  pub falls : anyOf (rises array start wanted) (length wanted) start ≡ false
+
+pub record Accepted (s : State) (wp : Bool) (array : List ℕ) (start : ℕ) (wanted : List ℕ) (room : ℕ) : Type 0 where
+  pub region : RegionAccepted s array start wanted
+  pub writable : stepOneNeeded s array start wanted && s .bpl && not wp ≡ false
+  pub roomy : length (encode (planRecords s array start wanted)) ≤ room

@@ -1,0 +1,169 @@
+// The planner: from the bytes wanted in a region of the array to the script that programs them.
+pub mod status; // steps 1 and 4
+
+use state::State;
+use steps::measure::Measure;
+ghost use mathlib.Core.Path.{_≡_};
+ghost use mathlib.Core.Bool.{_||_};
+ghost use Prim.Native.Nat.{_+_, _≤_};
+ghost use lib.Dec.{ltb};
+ghost use lib.ListN.{length};
+ghost use Rattle.common.specs.Refusals.{firstOf};
+ghost use Rattle.record.specs.Record.{encode};
+ghost use Rattle.steps.specs.Region.{Inside};
+ghost use Rattle.steps.specs.Measure.{measureOf};
+ghost use Rattle.steps.specs.Buffer.{Put};
+ghost use Rattle.plan.specs.Plan.{stepOneNeeded, programStep, planRecords};
+ghost use Rattle.plan.specs.Refusals.{longestWanted, regionRefusals};
+ghost use Rattle.plan.specs.Update.{refusedPlan, PlanUpdated};
+
+// A plan's answer: 0, the given state and what the script in the buffer amounts to; or the refusal's number, the given state and 0.
+#[repr(C)]
+pub struct Planned {
+    pub number: u32,
+    pub state: State,
+    pub length: u32,
+    pub frames: u32,
+    pub microseconds: u32,
+}
+
+fn refused_plan(number: u32, state: State) -> Planned
+    ensures { λ r. ⌜ r ≡ refusedPlan number state ⌝ }
+{
+    Planned {
+        number,
+        state,
+        length: 0,
+        frames: 0,
+        microseconds: 0,
+    }
+}
+
+// Whether a region has over 4,096 bytes or ends above the size. The sum of start and length may not fit, so it is not made.
+fn region_exceeds(size: usize, start: usize, n: usize) -> bool
+    ensures { λ r. ⌜ r ≡ (ltb longestWanted n || ltb size (start + n)) ⌝ }
+{
+    if size < start {
+        return true;
+    }
+    (4096 < n) | (size - start < n)
+}
+
+// Refusals 1, 2, 6, 7 and 8, in this order; 0 where there is none.
+fn region_refusal(s: State, array: &[u8], start: usize, wanted: &[u8]) -> u32
+    ensures { λ r. ⌜ r ≡ firstOf (regionRefusals s (now (array .entry)) start (now (wanted .entry))) ⌝ }
+{
+    let size = state::chip::chip_of(s.chip).size as usize;
+    if !state::soundness::is_sound(s) {
+        return 1;
+    }
+    if array.len() != size {
+        return 2;
+    }
+    if region_exceeds(size, start, wanted.len()) {
+        return 6;
+    }
+    if (0 < s.left) | s.aai | s.down {
+        return 7;
+    }
+    if steps::region::wants_rise(array, start, wanted) {
+        return 8;
+    }
+    0
+}
+
+// What step 2 or 3 amounts to.
+fn measure_program(words: bool, array: &[u8], start: usize, wanted: &[u8]) -> Measure
+    requires { ⌜ Inside (now array) start (now wanted) ⌝ }
+    ensures { λ r. ⌜ r ≡ measureOf (programStep words (now (array .entry)) start (now (wanted .entry))) ⌝ }
+{
+    if words {
+        words::measure_words(array, start, wanted)
+    } else {
+        pages::measure_pages(array, start, wanted)
+    }
+}
+
+// What the whole plan amounts to.
+fn measure_plan(s: State, needed: bool, array: &[u8], start: usize, wanted: &[u8]) -> Measure
+    requires { ⌜ Inside (now array) start (now wanted) ⌝ }
+    requires { ⌜ needed ≡ stepOneNeeded s (now array) start (now wanted) ⌝ }
+    ensures { λ r. ⌜ r ≡ measureOf (planRecords s (now (array .entry)) start (now (wanted .entry))) ⌝ }
+{
+    let words = state::chip::chip_of(s.chip).words;
+    status::with_status(needed, measure_program(words, array, start, wanted))
+}
+
+// Step 2 or 3, by the chip.
+fn put_program(
+    words: bool,
+    array: &[u8],
+    start: usize,
+    wanted: &[u8],
+    buffer: &mut [u8],
+    at: usize,
+) -> usize
+    requires { ⌜ Inside (now array) start (now wanted) ⌝ }
+    requires { ⌜ at + length (encode (programStep words (now array) start (now wanted))) ≤ length (now buffer) ⌝ }
+    ensures { λ r. ⌜ Put at (encode (programStep words (now (array .entry)) start (now (wanted .entry)))) (now (buffer .entry)) (now (buffer .exit)) r ⌝ }
+{
+    if words {
+        words::put_words(array, start, wanted, buffer, at)
+    } else {
+        pages::put_pages(array, start, wanted, buffer, at)
+    }
+}
+
+// The whole script, from the front of the buffer on; gives its length.
+fn put_plan(
+    s: State,
+    needed: bool,
+    array: &[u8],
+    start: usize,
+    wanted: &[u8],
+    buffer: &mut [u8],
+) -> usize
+    requires { ⌜ Inside (now array) start (now wanted) ⌝ }
+    requires { ⌜ s .bp ≤ 7 ⌝ }
+    requires { ⌜ needed ≡ stepOneNeeded s (now array) start (now wanted) ⌝ }
+    requires { ⌜ length (encode (planRecords s (now array) start (now wanted))) ≤ length (now buffer) ⌝ }
+    ensures { λ r. ⌜ Put 0 (encode (planRecords s (now (array .entry)) start (now (wanted .entry)))) (now (buffer .entry)) (now (buffer .exit)) r ⌝ }
+{
+    let words = state::chip::chip_of(s.chip).words;
+    let unprotected = status::put_status(needed, s, 0, buffer, 0);
+    let programmed = put_program(words, array, start, wanted, buffer, unprotected);
+    status::put_status(needed, s, s.bp, buffer, programmed)
+}
+
+// Plan an update: the script that makes the bytes from `start` on as wanted, at the front of the buffer.
+pub fn plan_update(
+    s: State,
+    wp: bool,
+    array: &[u8],
+    start: usize,
+    wanted: &[u8],
+    buffer: &mut [u8],
+) -> Planned
+    ensures { λ r. ⌜ PlanUpdated s wp (now (array .entry)) start (now (wanted .entry)) (now (buffer .entry)) (now (buffer .exit)) r ⌝ }
+{
+    let number = region_refusal(s, array, start, wanted);
+    if number != 0 {
+        return refused_plan(number, s);
+    }
+    let needed = status::step_one_needed(s, array, start, wanted);
+    if needed & s.bpl & !wp {
+        return refused_plan(9, s);
+    }
+    let m = measure_plan(s, needed, array, start, wanted);
+    if buffer.len() < m.length as usize {
+        return refused_plan(10, s);
+    }
+    put_plan(s, needed, array, start, wanted, buffer);
+    Planned {
+        number: 0,
+        state: s,
+        length: m.length,
+        frames: m.frames,
+        microseconds: m.microseconds,
+    }
+}

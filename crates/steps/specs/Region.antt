@@ -1,0 +1,39 @@
+-- The region of an update: what is wanted at each address, and which bytes change (01, "Scripts and plans").
+use mathlib.Core.Bool.{Bool, false, cond, not, _&&_, _||_}
+use mathlib.Core.List.{List, [], _∷_}
+use Prim.Native.Nat.{ℕ, zero, suc, _+_, _-_, _/_, _%_, _≤_}
+use lib.Bits.{bitAnd}
+use lib.Dec.{leb, ltb, eqb}
+use lib.ListN.{length, getD}
+
+-- a region as it is accepted (refusals 2 and 6): at most 4,096 bytes, within the array of a chip
+pub record Inside (array : List ℕ) (start : ℕ) (wanted : List ℕ) : Type 0 where
+  pub short : length wanted ≤ 4096
+  pub fits : start + length wanted ≤ length array
+  pub small : length array ≤ 1048576
+
+-- "Addresses have three bytes, high byte first"
+abbrev pub addressBytes : ℕ → List ℕ
+addressBytes address = address / 65536 % 256 ∷ address / 256 % 256 ∷ address % 256 ∷ []
+
+-- one of n addresses from a on
+unfoldable pub within : ℕ → ℕ → ℕ → Bool
+within a n address = leb a address && ltb address (a + n)
+
+-- the byte that an address is to have: "as wanted, a byte outside the region as FF"
+unfoldable pub wantedAt : ℕ → List ℕ → ℕ → ℕ
+wantedAt start wanted address = cond (within start (length wanted) address) (getD wanted (address - start) 0) 0xff
+
+-- "a byte that changes": a byte of the region that is not yet as wanted
+unfoldable pub changes : List ℕ → ℕ → List ℕ → ℕ → Bool
+changes array start wanted address = within start (length wanted) address && not (eqb (getD array address 0) (wantedAt start wanted address))
+
+-- "a wanted 1 where the array has 0" (refusal 8): ANDing would lose it
+unfoldable pub rises : List ℕ → ℕ → List ℕ → ℕ → Bool
+rises array start wanted address =
+    not (eqb (bitAnd (getD array address 0) (wantedAt start wanted address)) (wantedAt start wanted address))
+
+-- one of n addresses from a on passes the test
+unfoldable pub anyOf : (ℕ → Bool) → ℕ → ℕ → Bool
+anyOf test zero a = false
+anyOf test (suc n) a = test a || anyOf test n (suc a)

@@ -1,0 +1,58 @@
+-- `words::put_further` meets its contract: its records are laid one behind the other.
+-- Assumes nothing.
+use mathlib.Core.Bool.{true}
+use native.Mathlib.Omega.{arith}
+use borrow.Author.Needs.{needs}
+use Rattle.record.specs.Record.{encode}
+use Rattle.steps.specs.Region.{wantedAt}
+use Rattle.steps.proofs.Laws.Buffer.{Whole, left-start, record-room, record-turn, records-done}
+use Rattle.words.specs.Walk.{wordRecords}
+use Rattle.words.proofs.put_further.Statement.{statement}
+use Rattle.words.proofs.put_further.Tie as tie
+
+-- all of it is left before the first call
+begun : (c : tie.Start) → Whole (c .args .at) (encode (wordRecords (wantedAt (c .args .start) (c .args .wanted .now)) true true (c .args .address))) (c .args .buffer .now)
+begun c = left-start _ _ _ (c .pre .1)
+
+wanted-at-requires : tie.Need-wanted-at-requires
+wanted-at-requires c κs = search needs
+
+add-wanted-at : tie.Need-add-wanted-at
+add-wanted-at c = search needs
+
+wanted-at-requires-2 : tie.Need-wanted-at-requires-2
+wanted-at-requires-2 c κs = search needs
+
+slice-aggregate-put-frame : tie.Need-slice-aggregate-put-frame
+slice-aggregate-put-frame c = search needs
+
+put-frame-requires : tie.Need-put-frame-requires
+unfolding wordRecords
+put-frame-requires c κs = (omega arith, rw (c .before .before .wanted-at2 .ensures, c .before .before .before .wanted-at .ensures) (record-room _ _ (begun (c .before .before .before .before .before .before))))
+
+put-wait-requires : tie.Need-put-wait-requires
+unfolding wordRecords
+put-wait-requires c κs =
+    record-room _ _ (record-turn _ _ (begun (c .before .before .before .before .before .before .before .before .before .before)) (rw (c .before .before .before .before .before .before .wanted-at2 .ensures, c .before .before .before .before .before .before .before .wanted-at .ensures) at (c .before .before .before .put-frame .ensures)))
+
+same-length : tie.Need-same-length
+same-length c = search needs
+
+returns : tie.Need-returns
+unfolding wordRecords
+returns c =
+    records-done (record-turn _ _ (record-turn _ _ (begun (c .before .before .before .before .before .before .before .before .before .before .before .before .before))
+    (rw (c .before .before .before .before .before .before .before .before .before .wanted-at2 .ensures, c .before .before .before .before .before .before .before .before .before .before .wanted-at .ensures) at (c .before .before .before .before .before .before .put-frame .ensures))) (c .before .before .put-wait .ensures))
+
+pub put-further-spec : {M : Type 1} → statement M
+put-further-spec =
+    tie.close
+    (tie.spec
+    wanted-at-requires
+    add-wanted-at
+    wanted-at-requires-2
+    slice-aggregate-put-frame
+    put-frame-requires
+    put-wait-requires
+    same-length
+    returns)
