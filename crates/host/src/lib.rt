@@ -1,0 +1,113 @@
+// The library for programs in C, C++ or Rust: include/zeradok.h declares these calls. Each is one call of the model, under a name of its own.
+pub mod reader;
+
+use plan::Planned;
+use reader::Record;
+use script::Ran;
+use state::Answer;
+use state::State;
+ghost use mathlib.Core.Path.{_≡_};
+ghost use Rattle.state.specs.Power.{newChip, powerUp};
+ghost use Rattle.state.specs.Time.{passTime};
+ghost use Rattle.frame.specs.Call.{FrameRun, CutRun};
+ghost use Rattle.plan.specs.Update.{PlanUpdated};
+ghost use Rattle.script.specs.Script.{ScriptRun};
+ghost use Rattle.record.specs.Reader.{recordAt};
+ghost use Rattle.host.specs.Lent.{lentAnswer};
+ghost use Rattle.host.specs.Read.{recordOf};
+
+// Make a new chip.
+#[no_mangle]
+pub extern "C" fn zeradok_new(chip: u8) -> Answer
+    ensures { λ r. ⌜ r ≡ newChip chip ⌝ }
+{
+    state::power::new_chip(chip)
+}
+
+// Power the chip up again.
+#[no_mangle]
+pub extern "C" fn zeradok_power_up(chip: State) -> Answer
+    ensures { λ r. ⌜ r ≡ powerUp chip ⌝ }
+{
+    state::power::power_up(chip)
+}
+
+// Let so many microseconds pass.
+#[no_mangle]
+pub extern "C" fn zeradok_wait(chip: State, microseconds: u32) -> Answer
+    ensures { λ r. ⌜ r ≡ passTime chip microseconds ⌝ }
+{
+    state::time::pass_time(chip, microseconds)
+}
+
+// Run a frame. The state is lent, and is changed where it stands; the number is returned.
+#[no_mangle]
+pub extern "C" fn zeradok_frame(
+    chip: &mut State,
+    wp_high: bool,
+    array: &mut [u8],
+    frame: &[u8],
+    output: &mut [u8],
+) -> u32
+    ensures { λ r. ⌜ FrameRun (now (chip .entry)) «wp_high» (now (array .entry)) (now (frame .entry)) (now (output .entry)) (lentAnswer r (now (chip .exit))) (now (array .exit)) (now (output .exit)) ⌝ }
+{
+    let s = *chip;
+    let a = frame::call::run_frame(s, wp_high, array, frame, output);
+    *chip = a.state;
+    a.number
+}
+
+// Run a frame whose power is cut, then power up: the state is lent as above.
+#[no_mangle]
+pub extern "C" fn zeradok_cut_frame(
+    chip: &mut State,
+    wp_high: bool,
+    array: &mut [u8],
+    frame: &[u8],
+    output: &mut [u8],
+    mask: &[u8],
+) -> u32
+    ensures { λ r. ⌜ CutRun (now (chip .entry)) «wp_high» (now (array .entry)) (now (frame .entry)) (now (output .entry)) (now (mask .entry)) (lentAnswer r (now (chip .exit))) (now (array .exit)) (now (output .exit)) ⌝ }
+{
+    let s = *chip;
+    let a = frame::call::run_cut_frame(s, wp_high, array, frame, output, mask);
+    *chip = a.state;
+    a.number
+}
+
+// Plan an update of the bytes from `start` on: the script goes to the front of the buffer.
+#[no_mangle]
+pub extern "C" fn zeradok_plan(
+    chip: State,
+    wp_high: bool,
+    array: &[u8],
+    start: usize,
+    wanted: &[u8],
+    buffer: &mut [u8],
+) -> Planned
+    ensures { λ r. ⌜ PlanUpdated chip «wp_high» (now (array .entry)) start (now (wanted .entry)) (now (buffer .entry)) (now (buffer .exit)) r ⌝ }
+{
+    plan::plan_update(chip, wp_high, array, start, wanted, buffer)
+}
+
+// Run a script.
+#[no_mangle]
+pub extern "C" fn zeradok_run(
+    chip: State,
+    wp_high: bool,
+    array: &mut [u8],
+    script: &[u8],
+    output: &mut [u8],
+) -> Ran
+    ensures { λ r. ⌜ ScriptRun chip «wp_high» (now (array .entry)) (now (script .entry)) (now (output .entry)) r (now (array .exit)) (now (output .exit)) ⌝ }
+{
+    script::run_script(chip, wp_high, array, script, output)
+}
+
+// Read the record at an offset of a script.
+#[no_mangle]
+pub extern "C" fn zeradok_read(script: &[u8], offset: usize) -> Record
+    ensures { λ r. ⌜ r ≡ recordOf (recordAt (now (script .entry)) offset) ⌝ }
+{
+    reader::record_of(record::reader::record_at(script, offset))
+}

@@ -1,0 +1,440 @@
+/* 01's sample sessions, played by a C program that knows include/zeradok.h and nothing else. Every byte of each output and of the array is compared. */
+#include "zeradok.h"
+
+#include <stdio.h>
+#include <string.h>
+
+_Static_assert(sizeof(zeradok_state) == 16, "state");
+_Static_assert(offsetof(zeradok_state, chip) == 0 && offsetof(zeradok_state, bp) == 1, "state");
+_Static_assert(offsetof(zeradok_state, tb) == 2 && offsetof(zeradok_state, bpl) == 3, "state");
+_Static_assert(offsetof(zeradok_state, wel) == 4 && offsetof(zeradok_state, aai) == 5, "state");
+_Static_assert(offsetof(zeradok_state, armed) == 6 && offsetof(zeradok_state, power_down) == 7, "state");
+_Static_assert(offsetof(zeradok_state, left) == 8 && offsetof(zeradok_state, next) == 12, "state");
+_Static_assert(sizeof(zeradok_answer) == 20, "answer");
+_Static_assert(offsetof(zeradok_answer, number) == 0 && offsetof(zeradok_answer, state) == 4, "answer");
+_Static_assert(sizeof(zeradok_ran) == 32, "ran");
+_Static_assert(offsetof(zeradok_ran, number) == 0 && offsetof(zeradok_ran, state) == 4, "ran");
+_Static_assert(offsetof(zeradok_ran, frames) == 20 && offsetof(zeradok_ran, microseconds) == 24, "ran");
+_Static_assert(sizeof(zeradok_planned) == 32, "planned");
+_Static_assert(offsetof(zeradok_planned, number) == 0 && offsetof(zeradok_planned, state) == 4, "planned");
+_Static_assert(offsetof(zeradok_planned, length) == 20 && offsetof(zeradok_planned, frames) == 24, "planned");
+_Static_assert(offsetof(zeradok_planned, microseconds) == 28, "planned");
+_Static_assert(sizeof(zeradok_record) == 40, "record");
+_Static_assert(offsetof(zeradok_record, number) == 0 && offsetof(zeradok_record, kind) == 4, "record");
+_Static_assert(offsetof(zeradok_record, start) == 8 && offsetof(zeradok_record, length) == 16, "record");
+_Static_assert(offsetof(zeradok_record, microseconds) == 24 && offsetof(zeradok_record, next) == 32, "record");
+
+enum { F25L008A = 8, F25L05PA = 5, LONGEST_FRAME = 4101, LONGEST_SCRIPT = 32768 };
+
+/* ---- the chip on the bench, and what its array should be */
+
+static zeradok_state chip;
+static bool wp_high;
+static size_t size;
+static uint8_t array[1048576], expected[1048576];
+
+static bool fresh(uint8_t number, uint8_t filling)
+{
+    zeradok_answer made = zeradok_new(number);
+    chip = made.state;
+    wp_high = true;
+    size = number == F25L008A ? 1048576 : 65536;
+    memset(array, filling, size);
+    memset(expected, filling, size);
+    return made.number == 0;
+}
+
+static bool erased(uint8_t number)
+{
+    return fresh(number, 0xFF);
+}
+
+static bool becomes(size_t address, uint8_t value)
+{
+    expected[address] = value;
+    return true;
+}
+
+static bool same_state(zeradok_state a, zeradok_state b)
+{
+    return a.chip == b.chip && a.bp == b.bp && a.tb == b.tb && a.bpl == b.bpl && a.wel == b.wel && a.aai == b.aai && a.armed == b.armed
+        && a.power_down == b.power_down && a.left == b.left && a.next == b.next;
+}
+
+/* ---- frames, written in hex */
+
+static uint8_t input[LONGEST_FRAME + 1], output[LONGEST_FRAME + 1], shown[LONGEST_FRAME + 1];
+
+static size_t bytes_of(const char *hex, uint8_t *bytes)
+{
+    size_t count = 0;
+    unsigned byte;
+    int used;
+    while (sscanf(hex, "%x%n", &byte, &used) == 1) {
+        bytes[count++] = (uint8_t)byte;
+        hex += used;
+    }
+    return count;
+}
+
+static bool runs(const uint8_t *frame, size_t count, const uint8_t *shows)
+{
+    memset(output, 0xA5, sizeof output);
+    return zeradok_frame(&chip, wp_high, array, size, frame, count, output, count) == 0 && memcmp(output, shows, count) == 0
+        && memcmp(array, expected, size) == 0;
+}
+
+static bool sent(const char *frame, const char *shows)
+{
+    size_t count = bytes_of(frame, input);
+    return bytes_of(shows, shown) == count && runs(input, count, shown);
+}
+
+/* a frame that shows nothing */
+static bool silent(const char *frame)
+{
+    memset(shown, 0xFF, sizeof shown);
+    return runs(input, bytes_of(frame, input), shown);
+}
+
+static bool status(const char *byte)
+{
+    char shows[] = "FF 00";
+    memcpy(shows + 3, byte, 2);
+    return sent("05 00", shows);
+}
+
+static bool waited(uint32_t microseconds)
+{
+    zeradok_answer a = zeradok_wait(chip, microseconds);
+    chip = a.state;
+    return a.number == 0;
+}
+
+static bool unprotected(void)
+{
+    return silent("50") && silent("01 00") && status("00");
+}
+
+/* ---- the sessions of 01 */
+
+static bool new_status(void)
+{
+    return erased(F25L008A) && sent("05 00 00", "FF 1C 1C");
+}
+
+static bool jedec(void)
+{
+    return erased(F25L008A) && sent("9F 00 00 00 00", "FF 8C 20 14 FF");
+}
+
+static bool signature(void)
+{
+    return erased(F25L05PA) && sent("AB 00 00 00 00", "FF FF FF FF 05");
+}
+
+static bool identity(void)
+{
+    return erased(F25L008A) && sent("90 00 00 01 00 00 00", "FF FF FF FF 13 8C 13");
+}
+
+static bool protection(void)
+{
+    return erased(F25L008A) && silent("50") && silent("01 04") && silent("06")
+        && silent("02 0F 00 00 00") && status("06")                               /* protected: ignored */
+        && becomes(0x0EFFFF, 0x00) && silent("02 0E FF FF 00") && status("07");   /* not protected: taken */
+}
+
+static bool old_and_new(void)
+{
+    return erased(F25L008A) && unprotected()
+        && silent("06") && becomes(0x01234, 0xA5) && silent("02 00 12 34 A5") && waited(7)
+        && silent("06") && becomes(0x01234, 0x05) && silent("02 00 12 34 0F") && waited(7)
+        && erased(F25L05PA)
+        && silent("06") && becomes(0x1234, 0xA5) && silent("02 00 12 34 A5") && waited(1500)
+        && silent("06") && becomes(0x1234, 0x05) && silent("02 00 12 34 0F") && waited(1500);
+}
+
+static bool word_at_odd_address(void)
+{
+    return erased(F25L008A) && unprotected() && silent("06")
+        && becomes(0x012344, 0x11) && becomes(0x012345, 0x22) && silent("AD 01 23 45 11 22");
+}
+
+static bool page_goes_round(void)
+{
+    return erased(F25L05PA) && silent("06") && becomes(0x00FF, 0x01) && becomes(0x0000, 0x02) && silent("02 00 00 FF 01 02");
+}
+
+static bool chip_erase_by_bp2(void)
+{
+    bool taken = fresh(F25L05PA, 0x00) && silent("06") && silent("01 10") && silent("06") && status("12");
+    memset(expected, 0xFF, size);
+    taken = taken && silent("C7") && status("13") && waited(1000000) && status("10");
+    return taken && fresh(F25L008A, 0x00) && silent("50") && silent("01 10") && silent("06") && silent("C7") && status("12");
+}
+
+static bool word_at_the_top(void)
+{
+    return erased(F25L008A) && unprotected() && silent("06")
+        && becomes(0x0FFFFE, 0x12) && becomes(0x0FFFFF, 0x34) && silent("AD 0F FF FE 12 34")
+        && waited(6) && status("43") && waited(1) && status("00");
+}
+
+static bool status_between(void)
+{
+    return erased(F25L008A) && silent("50") && status("1C") && silent("01 00") && status("1C");
+}
+
+static bool longest_frame(void)
+{
+    bool ran = erased(F25L05PA);
+    memset(input, 0x00, sizeof input);
+    input[0] = 0x05;
+    memset(shown, 0x00, sizeof shown);
+    shown[0] = 0xFF;
+    ran = ran && runs(input, LONGEST_FRAME, shown);
+    zeradok_state before = chip;
+    memset(output, 0xA5, sizeof output);
+    memset(shown, 0xA5, sizeof shown);
+    return ran && zeradok_frame(&chip, wp_high, array, size, input, LONGEST_FRAME + 1, output, LONGEST_FRAME + 1) == 3
+        && same_state(chip, before) && memcmp(output, shown, sizeof output) == 0 && memcmp(array, expected, size) == 0;
+}
+
+static bool read_over_the_top(void)
+{
+    bool ready = erased(F25L05PA);
+    array[0xFFFF] = expected[0xFFFF] = 0x12;
+    array[0x0000] = expected[0x0000] = 0x34;
+    return ready && sent("03 00 FF FF 00 00", "FF FF FF FF 12 34");
+}
+
+/* ---- plans and scripts: 01's plan, and the script of its listing */
+
+static const uint8_t plan[] = {
+    0x5A, 0x46, 0x00, 0x01, 0x06,
+    0x5A, 0x46, 0x00, 0x06, 0xAD, 0x01, 0x23, 0x44, 0xFF, 0xFE,
+    0x5A, 0x57, 0x00, 0x00, 0x00, 0x07,
+    0x5A, 0x46, 0x00, 0x01, 0x04,
+};
+static const uint8_t listing[] = {
+    0x5A, 0x46, 0x00, 0x04, 0x9F, 0x00, 0x00, 0x00,
+    0x5A, 0x46, 0x00, 0x01, 0x06,
+    0x5A, 0x46, 0x00, 0x05, 0x02, 0x00, 0x01, 0x00, 0xA5,
+    0x5A, 0x57, 0x00, 0x00, 0x05, 0xDC,
+    0x5A, 0x46, 0x00, 0x02, 0x05, 0x00,
+    0x5A, 0x46, 0x00, 0x06, 0x03, 0x00, 0x01, 0x00, 0x00, 0x00,
+};
+static const uint8_t listed[] = {
+    0xFF, 0x8C, 0x30, 0x10,
+    0xFF,
+    0xFF, 0xFF, 0xFF, 0xFF, 0xFF,
+    0xFF, 0x00,
+    0xFF, 0xFF, 0xFF, 0xFF, 0xA5, 0xFF,
+};
+static uint8_t buffer[64], untouched[64];
+
+/* plans for one wanted byte, or none, in so much room; where it is refused the buffer keeps its A5 */
+static bool plans(size_t start, const uint8_t *wanted, size_t count, size_t room, zeradok_planned answer)
+{
+    memset(buffer, 0xA5, sizeof buffer);
+    memset(untouched, 0xA5, sizeof untouched);
+    zeradok_planned p = zeradok_plan(chip, wp_high, array, size, start, wanted, count, buffer, room);
+    return p.number == answer.number && same_state(p.state, chip) && p.length == answer.length && p.frames == answer.frames
+        && p.microseconds == answer.microseconds && memcmp(buffer + p.length, untouched, sizeof buffer - p.length) == 0;
+}
+
+static bool plan_refused(uint32_t number, size_t start, const uint8_t *wanted, size_t count, size_t room)
+{
+    return plans(start, wanted, count, room, (zeradok_planned){.number = number});
+}
+
+/* the script is refused, and neither the array nor the output is changed */
+static bool run_refused(uint32_t number, const uint8_t *script, size_t length, size_t output_length)
+{
+    memset(output, 0xA5, sizeof output);
+    memset(shown, 0xA5, sizeof shown);
+    zeradok_ran r = zeradok_run(chip, wp_high, array, size, script, length, output, output_length);
+    return r.number == number && same_state(r.state, chip) && r.frames == 0 && r.microseconds == 0
+        && memcmp(output, shown, sizeof output) == 0 && memcmp(array, expected, size) == 0;
+}
+
+static bool runs_script(const uint8_t *script, size_t length, const uint8_t *shows, size_t count, uint32_t frames, uint64_t microseconds)
+{
+    memset(output, 0xA5, sizeof output);
+    zeradok_ran r = zeradok_run(chip, wp_high, array, size, script, length, output, count);
+    chip = r.state;
+    return r.number == 0 && r.frames == frames && r.microseconds == microseconds && memcmp(output, shows, count) == 0
+        && memcmp(array, expected, size) == 0;
+}
+
+static bool planned_word(void)
+{
+    const uint8_t wanted = 0xFE, silence[] = {0xFF, 0xFF, 0xFF, 0xFF, 0xFF, 0xFF, 0xFF, 0xFF};
+    return erased(F25L008A) && unprotected()
+        && plans(0x012345, &wanted, 1, 26, (zeradok_planned){.length = 26, .frames = 3, .microseconds = 7}) && memcmp(buffer, plan, 26) == 0
+        && becomes(0x012345, 0xFE) && runs_script(buffer, 26, silence, sizeof silence, 3, 7) && status("00");
+}
+
+static bool plan_refusals(void)
+{
+    const uint8_t low = 0xFE, high = 0xFF;
+    bool good = erased(F25L008A) && unprotected() && plan_refused(10, 0x012345, &low, 1, 25) && plan_refused(10, 0x012345, &low, 1, 0)
+        && plans(size, NULL, 0, 0, (zeradok_planned){0}) && plan_refused(6, size, &low, 1, 64)
+        && plans(0x012345, &high, 1, 0, (zeradok_planned){0});
+    array[0x012345] = expected[0x012345] = 0xF0;
+    good = good && plan_refused(8, 0x012345, &low, 1, 64) && silent("50") && silent("01 9C") && status("9C");
+    wp_high = false;
+    good = good && plan_refused(9, 0x012346, &low, 1, 64);
+    return good && erased(F25L008A) && unprotected() && silent("06") && becomes(0, 0) && silent("02 00 00 00 00")
+        && plan_refused(7, 0x012346, &low, 1, 64);
+}
+
+static bool listing_whole(void)
+{
+    return erased(F25L05PA) && becomes(0x0100, 0xA5) && runs_script(listing, sizeof listing, listed, sizeof listed, 5, 1500) && status("00")
+        && runs_script(NULL, 0, NULL, 0, 0, 0);
+}
+
+static bool script_refusals(void)
+{
+    static uint8_t long_script[LONGEST_SCRIPT + 1];
+    return erased(F25L05PA) && run_refused(11, long_script, LONGEST_SCRIPT + 1, 0) && run_refused(12, long_script, LONGEST_SCRIPT, 0)
+        && run_refused(12, listing, sizeof listing - 1, sizeof listed) && run_refused(4, listing, sizeof listing, sizeof listed + 1);
+}
+
+static bool reads(const uint8_t *script, size_t length, size_t offset, zeradok_record answer)
+{
+    zeradok_record r = zeradok_read(script, length, offset);
+    return r.number == answer.number && r.kind == answer.kind && r.start == answer.start && r.length == answer.length
+        && r.microseconds == answer.microseconds && r.next == answer.next;
+}
+
+static bool records(void)
+{
+    static uint8_t long_script[LONGEST_SCRIPT + 1];
+    return reads(plan, 26, 0, (zeradok_record){0, 1, 4, 1, 0, 5}) && reads(plan, 26, 5, (zeradok_record){0, 1, 9, 6, 0, 15})
+        && reads(plan, 26, 15, (zeradok_record){0, 2, 0, 0, 7, 21}) && reads(plan, 26, 21, (zeradok_record){0, 1, 25, 1, 0, 26})
+        && reads(plan, 26, 26, (zeradok_record){0, 3, 0, 0, 0, 26}) && reads(NULL, 0, 0, (zeradok_record){0, 3, 0, 0, 0, 0})
+        && reads(plan, 25, 21, (zeradok_record){12, 0, 0, 0, 0, 21}) && reads(plan, 26, 27, (zeradok_record){12, 0, 0, 0, 0, 27})
+        && reads(plan, 26, 1, (zeradok_record){12, 0, 0, 0, 0, 1})
+        && reads(long_script, LONGEST_SCRIPT, 0, (zeradok_record){12, 0, 0, 0, 0, 0})
+        && reads(long_script, LONGEST_SCRIPT + 1, 0, (zeradok_record){11, 0, 0, 0, 0, 0});
+}
+
+/* the listing again, its records read and run one by one */
+static bool listing_by_records(void)
+{
+    bool good = erased(F25L05PA);
+    size_t offset = 0, laid = 0;
+    for (;;) {
+        zeradok_record r = zeradok_read(listing, sizeof listing, offset);
+        if (r.kind == 1) {
+            if (listing[r.start] == 0x02) becomes(0x0100, 0xA5);
+            good = good && runs(listing + r.start, r.length, listed + laid);
+            laid += r.length;
+        } else if (r.kind == 2) {
+            good = good && waited(r.microseconds);
+        } else {
+            return good && r.kind == 3 && laid == sizeof listed && status("00");
+        }
+        offset = r.next;
+    }
+}
+
+/* ---- power, and a cut */
+
+static bool power(void)
+{
+    zeradok_answer a;
+    if (!(erased(F25L008A) && unprotected() && silent("06"))) return false;
+    a = zeradok_power_up(chip);
+    if (a.number != 0 || !same_state(a.state, zeradok_new(F25L008A).state)) return false;
+    if (!(erased(F25L05PA) && silent("06") && silent("01 A4") && silent("B9"))) return false;
+    a = zeradok_power_up(chip);
+    chip = a.state;
+    return a.number == 0 && status("A4");
+}
+
+static bool cut(void)
+{
+    const uint8_t frame[] = {0x02, 0x00, 0x00, 0xFF, 0x00, 0x00}, mask[] = {0x0F, 0xF0};
+    bool ready = erased(F25L05PA) && silent("06");
+    becomes(0x0000, 0xF0); /* the mask goes by rising address */
+    becomes(0x00FF, 0x0F);
+    memset(shown, 0xFF, sizeof shown);
+    bool ran = zeradok_cut_frame(&chip, wp_high, array, size, frame, 6, output, 6, mask, 2) == 0 && memcmp(output, shown, 6) == 0
+        && memcmp(array, expected, size) == 0 && same_state(chip, zeradok_new(F25L05PA).state);
+    const uint8_t read_status[] = {0x05};
+    return ready && ran && zeradok_cut_frame(&chip, wp_high, array, size, read_status, 1, output, 1, NULL, 0) == 0;
+}
+
+/* ---- refusals: nothing is changed */
+
+static bool refused(uint32_t number, size_t array_length, size_t frame_length, size_t output_length, size_t mask_length)
+{
+    const uint8_t frame[8] = {0x02, 0x00, 0x00, 0x00, 0x00}, mask[2] = {0xFF, 0xFF};
+    zeradok_state before = chip;
+    memset(output, 0xA5, sizeof output);
+    memset(shown, 0xA5, sizeof shown);
+    bool whole = number == 5
+        || zeradok_frame(&chip, wp_high, array, array_length, frame_length ? frame : NULL, frame_length, output, output_length) == number;
+    return whole
+        && zeradok_cut_frame(&chip, wp_high, array, array_length, frame, frame_length, output, output_length, mask, mask_length) == number
+        && same_state(chip, before) && memcmp(output, shown, sizeof output) == 0 && memcmp(array, expected, size) == 0;
+}
+
+static bool refusals(void)
+{
+    zeradok_answer unknown = zeradok_new(7);
+    if (unknown.number != 1 || !same_state(unknown.state, zeradok_new(F25L05PA).state)) return false;
+    if (!(erased(F25L05PA) && silent("06"))) return false;
+    if (!(refused(2, size - 1, 5, 5, 1) && refused(3, size, 0, 0, 1) && refused(4, size, 5, 6, 1) && refused(5, size, 5, 5, 2))) return false;
+    chip.tb = true;
+    chip.aai = true; /* no AAI on the F25L05PA: not a state of the chip */
+    zeradok_answer up = zeradok_power_up(chip), later = zeradok_wait(chip, 1);
+    return refused(1, size - 1, 0, 6, 2) && up.number == 1 && same_state(up.state, chip) && later.number == 1 && same_state(later.state, chip);
+}
+
+static const struct {
+    const char *name;
+    bool (*holds)(void);
+} samples[] = {
+    {"new 008A: status 1C", new_status},
+    {"008A: JEDEC 8C 20 14", jedec},
+    {"05PA: signature 05", signature},
+    {"008A: 90 from address 1", identity},
+    {"008A, BP 001: 0F0000 protected, 0EFFFF not", protection},
+    {"A5 programmed 0F: 05", old_and_new},
+    {"008A: AD at 012345", word_at_odd_address},
+    {"05PA: page at 0000FF goes round", page_goes_round},
+    {"C7 with only BP2: 05PA taken, 008A ignored", chip_erase_by_bp2},
+    {"008A: AAI word at 0FFFFE, 43 then 00", word_at_the_top},
+    {"new 008A: 50, 05, 01", status_between},
+    {"frame of 4,101 runs, 4,102 is refused", longest_frame},
+    {"05PA: read of two at FFFF", read_over_the_top},
+    {"008A: plan of FE at 012345, and its run", planned_word},
+    {"refusals 6 to 10 of a plan, and empty plans", plan_refusals},
+    {"the listing's script, whole", listing_whole},
+    {"the listing's script, record by record", listing_by_records},
+    {"refusals 4, 11 and 12 of a script", script_refusals},
+    {"records of a plan, one by one", records},
+    {"power-up of both chips", power},
+    {"a cut page", cut},
+    {"refusals 1 to 5 change nothing", refusals},
+};
+
+int main(void)
+{
+    unsigned passed = 0, failed = 0;
+    for (size_t i = 0; i < sizeof samples / sizeof *samples; i++) {
+        if (samples[i].holds()) {
+            passed++;
+        } else {
+            failed++;
+            printf("failed: %s\n", samples[i].name);
+        }
+    }
+    printf("C samples: %u passed, %u failed\n", passed, failed);
+    return failed != 0;
+}

@@ -1,0 +1,82 @@
+/*
+ * Zeradok: a model of the serial flash chips F25L008A and F25L05PA. Link target/staticlib/libhost.a (x86-64 Linux).
+ *
+ * A chip is a zeradok_state and an array of exactly its size: 1,048,576 bytes (F25L008A, chip number 8) or 65,536 (F25L05PA, 5).
+ * The calls keep nothing between them. Each answers any arguments that keep the rules below: 0, or the number of the first refusal
+ * that holds. A refused call writes through no pointer and gives back the state that it got, with lengths and counts 0.
+ *
+ * What a caller owes, which no call can test:
+ *  - a slice is a pointer and a length, and all bytes of the length can be read, and written where the pointer is not const.
+ *    An empty slice may have any pointer, NULL too;
+ *  - `chip` of the frame calls points to one zeradok_state, aligned as C aligns it;
+ *  - what a call may write (the state behind `chip`, array, output, buffer) overlaps nothing else that the same call is passed;
+ *    what it only reads may overlap;
+ *  - every bool, in a state too, is 0 or 1; no other thread writes what a call was passed while it runs.
+ * A state needs no further care: the calls refuse one that no chip can be in.
+ *
+ * After a cut the F25L05PA may stand unprotected.
+ */
+#ifndef ZERADOK_H
+#define ZERADOK_H
+
+#include <stdbool.h>
+#include <stddef.h>
+#include <stdint.h>
+
+#ifdef __cplusplus
+extern "C" {
+#endif
+
+/* chip: 8 or 5; bp: BP2 BP1 BP0 as a number; armed: a status write may come next; left: microseconds until BUSY falls; next: AAI's next address. */
+typedef struct { uint8_t chip, bp; bool tb, bpl, wel, aai, armed, power_down; uint32_t left, next; } zeradok_state;
+
+typedef struct { uint32_t number; zeradok_state state; } zeradok_answer;
+
+/* A script run: so many frames run and microseconds waited. */
+typedef struct { uint32_t number; zeradok_state state; uint32_t frames; uint64_t microseconds; } zeradok_ran;
+
+/* A script planned: its length in bytes, its frames and its microseconds. */
+typedef struct { uint32_t number; zeradok_state state; uint32_t length, frames, microseconds; } zeradok_planned;
+
+/* kind: 0 refused, 1 frame, 2 wait, 3 end. start and length (the frame's bytes in the script) are 0 unless it is a frame, microseconds unless it is a wait. */
+typedef struct { uint32_t number, kind; size_t start, length; uint32_t microseconds; size_t next; } zeradok_record;
+
+/* A new chip. Refusal 1: an unknown chip number (the state is then a new F25L05PA). Changes nothing. */
+zeradok_answer zeradok_new(uint8_t chip);
+
+/* The state after power-off and power-up. Refusal 1: the state is not sound. Changes nothing. */
+zeradok_answer zeradok_power_up(zeradok_state chip);
+
+/* The state when so many microseconds have passed. Refusal 1: the state is not sound. Changes nothing. */
+zeradok_answer zeradok_wait(zeradok_state chip, uint32_t microseconds);
+
+/* Runs the frame: output byte i is what the chip shows while byte i goes in. Changes *chip, array and output.
+ * Refusals: 1 state, 2 array length, 3 frame empty or over 4,101 bytes, 4 output length isn't the frame's. */
+uint32_t zeradok_frame(zeradok_state *chip, bool wp_high, uint8_t *array, size_t array_length, const uint8_t *frame, size_t frame_length,
+                       uint8_t *output, size_t output_length);
+
+/* Runs the frame while the power is cut, then powers up. The mask has one byte for each array byte that the frame programs or erases, by rising
+ * address (none if it does neither): a 1 bit got its new value. Changes *chip, array and output. Refusals as above, and 5: mask length. */
+uint32_t zeradok_cut_frame(zeradok_state *chip, bool wp_high, uint8_t *array, size_t array_length, const uint8_t *frame, size_t frame_length,
+                           uint8_t *output, size_t output_length, const uint8_t *mask, size_t mask_length);
+
+/* Plans the script that makes the bytes from start on as wanted, at the front of buffer. Changes buffer only; the state comes back as given.
+ * Refusals: 1 state, 2 array length, 6 over 4,096 wanted bytes or they end past the array, 7 not at rest (busy, AAI, power-down),
+ * 8 a wanted 1 where the array has 0, 9 protected with BPL 1 and WP low, 10 the buffer is too short. */
+zeradok_planned zeradok_plan(zeradok_state chip, bool wp_high, const uint8_t *array, size_t array_length, size_t start,
+                             const uint8_t *wanted, size_t wanted_length, uint8_t *buffer, size_t buffer_length);
+
+/* Runs the records of a script, the frames' outputs one after another in output. Changes array and output; the state comes back in the answer.
+ * Refusals, in this order: 1 state, 2 array length, 11 script over 32,768 bytes, 12 a bad record, 4 output length isn't the frames' sum. */
+zeradok_ran zeradok_run(zeradok_state chip, bool wp_high, uint8_t *array, size_t array_length, const uint8_t *script, size_t script_length,
+                        uint8_t *output, size_t output_length);
+
+/* Reads the record at an offset of a script; next is the offset behind it, and the given one for a refusal and at the end. Changes nothing.
+ * Refusals: 11 script over 32,768 bytes, 12 the record is malformed or cut short, or the offset is past the end. */
+zeradok_record zeradok_read(const uint8_t *script, size_t script_length, size_t offset);
+
+#ifdef __cplusplus
+}
+#endif
+
+#endif
