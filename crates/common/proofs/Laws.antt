@@ -3,3 +3,4 @@ pub mod Booleans
 pub mod Lists
 pub mod Refusals
 pub mod Pairs
+pub mod Bits

@@ -6,7 +6,6 @@ pub mod Call
 pub mod Turn
 pub mod Mask
 pub mod Page
-pub mod Bits
 pub mod Cut
 pub mod Array
 pub mod Sound

@@ -24,7 +24,8 @@ use Rattle.frame.specs.Effect.{touches, struck, changed, maskLength}
 use Rattle.frame.specs.Cut.{mixed, cut}
 use Rattle.frame.specs.Call.{frameNumber, effectAt, frameArray, cutNumber, cutArray}
 use Rattle.frame.proofs.Laws.Accepted.{Accepted, number-accepted, accepted-number, cut-number-accepted, cut-number-whole}
-use Rattle.frame.proofs.Laws.Bits.{Bytes, bitAt, NoRise, no-rise-refl, no-rise-and, no-rise-part, no-rise-or}
+use Rattle.common.specs.Bits.{Bytes, bitAt}
+use Rattle.common.proofs.Laws.Bits.{NoRise, no-rise-refl, no-rise-and, no-rise-part, no-rise-or}
 use Rattle.frame.proofs.Laws.Cut.{changed-lt, cut-lt, cut-between, ones, zeros, cut-all, cut-none}
 use Rattle.frame.proofs.Laws.Effect.{changed-other, changed-above, cut-other, cut-above}
 use Rattle.frame.proofs.Laws.Inside.{effect-free}

@@ -19,7 +19,8 @@ use Rattle.frame.specs.declared.effect.Effect.{Effect}
 use Rattle.frame.specs.declared.effect.Effect.the-variants.{Keep, Fill, Program, Round}
 use Rattle.frame.specs.Effect.{touches, struck, changed, maskLength}
 use Rattle.frame.specs.Cut.{mixed, maskPlace, cut}
-use Rattle.frame.proofs.Laws.Bits.{Bytes, bitAt, bit-lt, bit-and, bit-or, bit-not, and-full}
+use Rattle.common.specs.Bits.{Bytes, bitAt}
+use Rattle.common.proofs.Laws.Bits.{bit-lt, bit-and, bit-or, bit-not, and-full}
 use Rattle.frame.proofs.Laws.Effect.{changed-touched, changed-other, cut-touched, cut-other}
 use Rattle.frame.proofs.Laws.Mask.{mask-place-lt}
 

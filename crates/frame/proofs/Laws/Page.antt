@@ -17,7 +17,7 @@ use Rattle.common.proofs.Laws.Lists.{split}
 use Rattle.frame.specs.declared.effect.Effect.{Effect}
 use Rattle.frame.specs.declared.effect.Effect.the-variants.{Program, Round}
 use Rattle.frame.specs.Effect.{pageEffect, within, turn, lastFor, touches, struck, changed}
-use Rattle.frame.proofs.Laws.Bits.{and-full}
+use Rattle.common.proofs.Laws.Bits.{and-full}
 use Rattle.frame.proofs.Laws.Effect.{changed-other, within-bounds, within-yes, within-below, within-above}
 use Rattle.frame.proofs.Laws.Turn.{turn-offset, turn-up, turn-round, turn-here, turn-next-here, turn-there, turn-next-there}
 

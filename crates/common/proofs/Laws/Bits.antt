@@ -1,23 +1,14 @@
 -- Bits of a number: of `bitAnd`, `bitOr` and a byte's complement. Numbers with the same bits are equal, and "no bit rises" is `bitAnd`.
 -- Assumes nothing.
 use mathlib.Core.Path.{_≡_, refl, sym, ap, ap₂, _∙_}
-use mathlib.Core.List.{List}
 use Prim.Native.Nat.{ℕ, zero, suc, _+_, _-_, _*_, _/_, _%_, _^_, _<_, min, max, suc-le-suc}
 use native.Mathlib.Nat.{le-of-suc-le-suc, mod-eq-of-lt, not-suc-le-zero, pow-suc, zero-lt-suc}
 use native.Mathlib.Numerals.{one-add}
 use native.Mathlib.Omega.{arith}
 use lib.Arith.{bin-ind, digits-mod, lt-one}
 use lib.Bits.{bitAnd, bitOr, and-step, or-step, and-shr, or-shr, and-self, and-comm, and-zero-r, and-mask}
-use lib.ListN.{getD}
 use lib.Pow.{shr-shr}
-
--- bit b of x, counted from the lowest
-unfoldable pub bitAt : ℕ → ℕ → ℕ
-bitAt x b = x / 2 ^ b % 2
-
--- a list of bytes
-abbrev pub Bytes : List ℕ → Type 0
-Bytes l = (k : ℕ) → getD l k 0 < 256
+use Rattle.common.specs.Bits.{bitAt}
 
 pub bit-lt : (x b : ℕ) → bitAt x b < 2
 unfolding bitAt

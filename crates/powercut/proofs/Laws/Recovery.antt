@@ -1,0 +1,115 @@
+-- A chip that a cut has met, powered up: planning again is accepted with 22 bytes more room, and that plan completes the update.
+-- Assumes nothing.
+use mathlib.Core.Path.{_≡_, refl, _∙_}
+use mathlib.Core.Bool.{Bool, true, false, not, _&&_}
+use mathlib.Core.List.{List}
+use mathlib.Core.Logic.{_⊎_, inl, inr, ⊎-elim}
+use Prim.Native.Nat.{ℕ, _+_, _≤_, _<_}
+use native.Mathlib.Omega.{arith}
+use lib.ListN.{length}
+use Rattle.common.proofs.Laws.Choice.{cases}
+use Rattle.state.specs.declared.State.{State}
+use Rattle.state.specs.Chip.{chipOf}
+use Rattle.state.specs.State.{dataOf}
+use Rattle.state.specs.Power.{atRest, newState, poweredUp}
+use Rattle.state.specs.Protection.{firstProtected}
+use Rattle.state.proofs.Laws.Power.{powered-up-sound}
+use Rattle.state.proofs.Laws.Soundness.{of-sound}
+use Rattle.common.specs.Bits.{Bytes}
+use Rattle.script.specs.Run.{Device, device}
+use Rattle.steps.specs.Region.{wantedAt, changes}
+use Rattle.plan.specs.Plan.{stepOneNeeded, planRecords}
+use Rattle.plan.specs.Refusals.{Accepted}
+use Rattle.plan.proofs.Laws.Refusals.{of-accepted}
+use Rattle.powercut.specs.PowerCut.{Recovers}
+use Rattle.powercut.proofs.Laws.States.{rest, first-by}
+use Rattle.powercut.proofs.Laws.Near.{near-bytes}
+use Rattle.powercut.proofs.Laws.Safe.{Task, Safe}
+use Rattle.powercut.proofs.Laws.Region.{region-bounds, change-in-region, partway, changes-fewer, falls-still, updated-same}
+use Rattle.powercut.proofs.Laws.Length.{plan-22-longer}
+use Rattle.powercut.proofs.Laws.Completes.{completes}
+use Rattle.powercut.proofs.Laws.PlanRun.{not-needed-free, free-not-needed, open-at-0, task}
+
+-- what power-up leaves: a chip at rest, whose BPL is 0, or whose bits are those of the moment
+record Awake (s now : State) : Type 0 where
+  bp : ℕ
+  tb : Bool
+  bpl : Bool
+  is : now ≡ atRest (s .chip) bp tb bpl
+  lock : (bpl ≡ false) ⊎ ((bp ≡ s .bp) × (bpl ≡ s .bpl))
+
+awake : (s : State) → Awake s (poweredUp s)
+unfolding poweredUp newState
+awake s =
+    cases (dataOf s .keeps)
+    (λ k. record { bp = s .bp; tb = s .tb; bpl = s .bpl; is = rw k refl; lock = inr (refl, refl) })
+    (λ k. record { bp = chipOf (s .chip) .newlevel; tb = false; bpl = false; is = rw k refl; lock = inl refl })
+
+-- of three, the last two don't hold together
+off : (a b c : Bool) → b && c ≡ false → a && b && c ≡ false
+off true b c e = e
+off false b c e = refl
+
+module _ (given : State) (bp : ℕ) (wel armed : Bool) (wp : Bool) (array : List ℕ) (start : ℕ) (wanted : List ℕ) (room : ℕ) (bytes : Bytes array)
+    (accepted : Accepted (rest given bp wel armed) wp array start wanted room) where
+  abbrev s : State
+  s = rest given bp wel armed
+
+  abbrev t : Task
+  t = task given bp wel armed wp array start wanted room bytes accepted
+
+  fits : start + length wanted ≤ length array
+  fits = rw (accepted .region .sized) (accepted .region .fits)
+
+  module _ (d : Device) (safe : Safe t d) where
+    abbrev woken : Awake (d .state) (poweredUp (d .state))
+    woken = awake (d .state)
+
+    abbrev again : State
+    again = atRest (d .state .chip) (woken .bp) (woken .tb) (woken .bpl)
+
+    abbrev now : List ℕ
+    now = d .array
+
+    fewer : (k : ℕ) → changes now start wanted k ≡ true → changes array start wanted k ≡ true
+    fewer = changes-fewer array start wanted bytes now (safe .near) fits
+
+    -- refusal 9: BPL is 0, or the bits are the given ones and fewer bytes change, or BP is 000
+    free-again : (k : ℕ) → stepOneNeeded s array start wanted ≡ false → woken .bp ≡ d .state .bp → changes now start wanted k ≡ true → k < firstProtected again
+    free-again k needed e c =
+        ⊎-elim (λ h. rw (first-by again s (safe .held .same-chip) (e ∙ h)) (not-needed-free s array start wanted needed k (fewer k c)))
+        (λ h. let b = region-bounds start (length wanted) k (change-in-region now start wanted k c) in
+        rw (open-at-0 again (e ∙ h), safe .held .same-chip) (omega (arith, accepted .region .fits))) (safe .held .level-held)
+
+    writable-again : stepOneNeeded again now start wanted && again .bpl && not wp ≡ false
+    writable-again =
+        ⊎-elim (λ e. off (stepOneNeeded again now start wanted) (woken .bpl) (not wp) (rw e refl))
+        (λ e. cases (stepOneNeeded s array start wanted)
+        (λ needed. off (stepOneNeeded again now start wanted) (woken .bpl) (not wp) (rw (e .1, safe .held .same-bpl) (rw needed at (accepted .writable))))
+        (λ needed. rw (free-not-needed again now start wanted (λ k c. free-again k needed (e .0) c)) refl)) (woken .lock)
+
+    accepted-again : Accepted again wp now start wanted (room + 22)
+    accepted-again = record {
+      region = record {
+        sound = of-sound again (rw (woken .is) at (powered-up-sound (d .state) (safe .sound)));
+        sized = safe .near .same-length ∙ rw (safe .held .same-chip) (accepted .region .sized);
+        short = accepted .region .short;
+        fits = rw (safe .held .same-chip) (accepted .region .fits);
+        ready = refl;
+        no-aai = refl;
+        awake = refl;
+        falls = falls-still array start wanted bytes now (safe .near) fits (accepted .region .falls);
+      };
+      writable = writable-again;
+      roomy = omega (arith, accepted .roomy, plan-22-longer now array start wanted fewer again s (safe .held .same-chip));
+    }
+
+    pub recovers : Recovers planRecords wp array start wanted (room + 22) (device (poweredUp (d .state)) now)
+    recovers =
+        rw (woken .is)
+        record {
+          partway = partway array start wanted bytes now (safe .near) fits;
+          accepted = of-accepted again now start wanted wp (room + 22) accepted-again;
+          completes = rw (← (updated-same array start wanted bytes now (safe .near)))
+              (completes again (woken .bp) false false wp now start wanted (room + 22) (near-bytes array (wantedAt start wanted) now (safe .near) bytes) accepted-again);
+        }

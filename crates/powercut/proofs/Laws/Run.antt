@@ -1,0 +1,108 @@
+-- How records run, cut anywhere: rules by which the proof of a run takes the shape of its script.
+-- Over any chip, and any records that program what is wanted.
+-- Assumes nothing.
+use mathlib.Core.Path.{_≡_, refl, sym, subst, _∙_}
+use mathlib.Core.List.{List, [], _∷_, _++_}
+use Prim.Native.Nat.{ℕ, _<_}
+use lib.ListN.{length}
+use Rattle.common.specs.Lists.{mapi}
+use Rattle.state.specs.declared.State.{State}
+use Rattle.state.specs.Soundness.{Sound}
+use Rattle.state.specs.Time.{timePassed}
+use Rattle.state.proofs.Laws.Time.{time-passed-sound}
+use Rattle.command.specs.declared.Command.{Command}
+use Rattle.command.specs.Command.{commandOf}
+use Rattle.command.specs.Registers.{stateAfter}
+use Rattle.command.proofs.Laws.Kept.{command-sound}
+use Rattle.record.specs.Record.{Record, frame, wait, AllFit}
+use Rattle.frame.specs.declared.effect.Effect.the-variants.{Keep}
+use Rattle.frame.specs.Effect.{effectOf, changed}
+use Rattle.script.specs.Run.{Device, device, step, run}
+use Rattle.script.proofs.Laws.Run.{run-append}
+use Rattle.powercut.proofs.Laws.Near.{Near, Programs, Settled, keep-programs, keep-array, near-cut}
+use Rattle.powercut.proofs.Laws.Safe.{Task, HeldBy, Safe, Inside, Always, always-append, always-now, safe-accepted}
+use Rattle.powercut.proofs.Laws.Trace.{step-frame, step-wait}
+
+-- of two lists of records, each fits
+fit-left : (rs ss : List Record) → AllFit (rs ++ ss) → AllFit rs
+fit-left [] ss a = tt
+fit-left (r ∷ rs) ss a = (a .0, fit-left rs ss (a .1))
+
+fit-right : (rs ss : List Record) → AllFit (rs ++ ss) → AllFit ss
+fit-right [] ss a = a
+fit-right (r ∷ rs) ss a = fit-right rs ss (a .1)
+
+module _ (t : Task) where
+  -- all below an address is settled
+  abbrev pub Done : ℕ → List ℕ → Type 0
+  Done z array = (k : ℕ) → k < z → k < length (t .array) → Settled (t .want) array k
+
+  -- the records run from a chip: safe on the way, the state at the end, and what is settled then
+  pub record Ran (end : State) (z : ℕ) (rs : List Record) (d : Device) : Type 0 where
+    pub always : Always t rs d
+    pub safe : Safe t (run (t .level) rs d)
+    pub ends : run (t .level) rs d .state ≡ end
+    pub done : Done z (run (t .level) rs d .array)
+
+  -- from a sound state, if the records fit
+  abbrev pub Runs : State → ℕ → List Record → State → List ℕ → Type 0
+  Runs end z rs s array = Sound s → AllFit rs → Ran end z rs (device s array)
+
+  -- each byte between what was given and what is wanted
+  abbrev pub OnItsWay : List ℕ → Type 0
+  OnItsWay array = Near (t .array) (t .want) array
+
+  pub ran-nil : {s : State} {array : List ℕ} (z : ℕ) → HeldBy (t .state) s → OnItsWay array → Done z array → Runs s z [] s array
+  unfolding run
+  ran-nil z held near done sound fits =
+      let safe : Safe t (device _ _) = record { sound = sound; held = held; near = near } in
+      record { always = safe; safe = safe; ends = refl; done = done }
+
+  module _ {end : State} {z : ℕ} where
+    ran-cons : (r : Record) (rs : List Record) (d e : Device) → step (t .level) r d ≡ e → Safe t d → Inside t r d → Ran end z rs e → Ran end z (r ∷ rs) d
+    unfolding run
+    ran-cons r rs d e law safe inside h =
+        let q : Ran end z rs (step (t .level) r d) = rw law h in
+        record { always = (safe, (inside, q .always)); safe = q .safe; ends = q .ends; done = q .done }
+
+    -- a frame, by the command that it is
+    pub ran-frame : (c : Command) {f : List ℕ} {s : State} {array : List ℕ} {rs : List Record} → commandOf s (t .level) f ≡ c → Programs (t .want) (effectOf c) f
+        → HeldBy (t .state) s → OnItsWay array
+        → Runs end z rs (stateAfter s c) (mapi (changed (effectOf c) f) array) → Runs end z (frame f ∷ rs) s array
+    ran-frame c {f} {s} {array} {rs} law programs held near then sound fits =
+        let safe : Safe t (device s array) = record { sound = sound; held = held; near = near } in
+        let sound-then : Sound (stateAfter s c) = rw law at (command-sound s (t .level) f sound) in
+        let q = then sound-then (fits .1) in
+        let now = always-now t rs (device (stateAfter s c) (mapi (changed (effectOf c) f) array)) (q .always) in
+        ran-cons (frame f) rs (device s array) (device (stateAfter s c) (mapi (changed (effectOf c) f) array))
+        (step-frame (t .level) s array f (safe-accepted t (device s array) f safe (fits .0)) ∙ rw law refl) safe
+        (λ mask masked. rw law (record { sound = sound-then; held = now .held; near = near-cut (t .array) (t .want) array near (effectOf c) f programs mask (t .bytes) masked }))
+        q
+
+    -- a frame that leaves the array alone
+    pub ran-quiet : (c : Command) {f : List ℕ} {s : State} {array : List ℕ} {rs : List Record} → commandOf s (t .level) f ≡ c → effectOf c ≡ Keep
+        → HeldBy (t .state) s → OnItsWay array → Runs end z rs (stateAfter s c) array → Runs end z (frame f ∷ rs) s array
+    ran-quiet c {f} {s} {array} {rs} law quiet held near then =
+        ran-frame c law (rw quiet (keep-programs (t .want) f)) held near (rw (quiet, keep-array f array) then)
+
+    pub ran-wait : {n : ℕ} {s : State} (after : State) {array : List ℕ} {rs : List Record} → timePassed s n ≡ after
+        → HeldBy (t .state) s → OnItsWay array → Runs end z rs after array → Runs end z (wait n ∷ rs) s array
+    ran-wait {n} {s} after {array} {rs} law held near then sound fits =
+        ran-cons (wait n) rs (device s array) (device after array) (step-wait (t .level) s array n sound ∙ rw law refl)
+        (record { sound = sound; held = held; near = near }) tt (then (rw law at (time-passed-sound s n sound)) (fits .1))
+
+  pub ran-append : {middle end : State} {y z : ℕ} {rs ss : List Record} {s : State} {array : List ℕ} → Runs middle y rs s array
+      → ((now : List ℕ) → OnItsWay now → Done y now → Runs end z ss middle now) → Runs end z (rs ++ ss) s array
+  ran-append {middle} {end} {y} {z} {rs} {ss} {s} {array} first then sound fits =
+      let d : Device = device s array in
+      let r = first sound (fit-left rs ss fits) in
+      let e : Device = run (t .level) rs d in
+      let q : Ran end z ss (device (e .state) (e .array)) =
+      subst (λ (x : State). Ran end z ss (device x (e .array))) (sym (r .ends))
+      (then (e .array) (r .safe .near) (r .done) (subst Sound (r .ends) (r .safe .sound)) (fit-right rs ss fits)) in
+      record {
+        always = always-append t rs ss d (r .always) (q .always);
+        safe = rw (run-append (t .level) rs ss d) (q .safe);
+        ends = rw (run-append (t .level) rs ss d) (q .ends);
+        done = rw (run-append (t .level) rs ss d) (q .done);
+      }

@@ -1,0 +1,90 @@
+-- Every place where the power can be cut while records are run, and what a cut may meet there: a sound state, its protection held, the array on its way.
+-- Over any chip, and any byte wanted at each address.
+-- Assumes nothing.
+use mathlib.Core.Path.{_≡_, refl, _∙_}
+use mathlib.Core.Bool.{Bool}
+use mathlib.Core.List.{List, [], _∷_, _++_}
+use mathlib.Core.Logic.{_⊎_}
+use Prim.Native.Nat.{ℕ}
+use lib.ListN.{length}
+use Rattle.common.specs.Lists.{mapi}
+use Rattle.state.specs.declared.State.{State}
+use Rattle.state.specs.State.{dataOf}
+use Rattle.state.specs.Soundness.{Sound}
+use Rattle.record.specs.Record.{Record, frame, wait, Fits}
+use Rattle.frame.specs.Cut.{cut}
+use Rattle.frame.specs.Call.{effectAt, stateAt}
+use Rattle.frame.proofs.Laws.Accepted.{Accepted}
+use Rattle.common.specs.Bits.{Bytes}
+use Rattle.script.specs.Run.{Device, device, step, run}
+use Rattle.powercut.proofs.Laws.Near.{Near}
+
+-- a chip as it was given, the level, and the byte that is wanted at each address
+pub record Task : Type 0 where
+  pub level : Bool
+  pub state : State
+  pub array : List ℕ
+  pub want : ℕ → ℕ
+  pub bytes : Bytes array
+  pub sized : length array ≡ dataOf state .size
+
+-- the protection bits are the given ones, or BP is 000
+pub record Held (given : State) (chip bp : ℕ) (tb bpl : Bool) : Type 0 where
+  pub same-chip : chip ≡ given .chip
+  pub level-held : (bp ≡ given .bp) ⊎ (bp ≡ 0)
+  pub same-tb : tb ≡ given .tb
+  pub same-bpl : bpl ≡ given .bpl
+
+abbrev pub HeldBy : State → State → Type 0
+HeldBy given s = Held given (s .chip) (s .bp) (s .tb) (s .bpl)
+
+module _ (t : Task) where
+  -- what a cut may meet: the array is on its way
+  pub record Safe (d : Device) : Type 0 where
+    pub sound : Sound (d .state)
+    pub held : HeldBy (t .state) (d .state)
+    pub near : Near (t .array) (t .want) (d .array)
+
+  -- an interrupted frame, before the power is back
+  abbrev pub torn : List ℕ → List ℕ → Device → Device
+  torn f mask d =
+      device (stateAt (d .state) (t .level) f) (mapi (cut (effectAt (d .state) (t .level) f) f mask) (d .array))
+
+  abbrev pub Inside : Record → Device → Type 0
+  Inside (frame f) d = (mask : List ℕ) → Bytes mask → Safe (torn f mask d)
+  Inside (wait n) d = Unit {0}
+
+  -- before each record, inside each frame, and at the end
+  abbrev pub Always : List Record → Device → Type 0
+  Always [] d = Safe d
+  Always (r ∷ rs) d = Safe d × (Inside r d × Always rs (step (t .level) r d))
+
+  pub always-append : (rs ss : List Record) (d : Device) → Always rs d → Always ss (run (t .level) rs d) → Always (rs ++ ss) d
+  unfolding run
+  always-append [] ss d h k = k
+  always-append (r ∷ rs) ss d h k = (h .0, (h .1 .0, always-append rs ss (step (t .level) r d) (h .1 .1) k))
+
+  pub always-now : (rs : List Record) (d : Device) → Always rs d → Safe d
+  always-now [] d h = h
+  always-now (r ∷ rs) d h = h .0
+
+  -- a cut between two records, and one inside a frame
+  pub always-between : (rs ss : List Record) (d : Device) → Always (rs ++ ss) d → Safe (run (t .level) rs d)
+  unfolding run
+  always-between [] ss d h = always-now ss d h
+  always-between (r ∷ rs) ss d h = always-between rs ss (step (t .level) r d) (h .1 .1)
+
+  pub always-inside : (rs ss : List Record) (f : List ℕ) (d : Device) → Always (rs ++ (frame f ∷ ss)) d → Inside (frame f) (run (t .level) rs d)
+  unfolding run
+  always-inside [] ss f d h = h .1 .0
+  always-inside (r ∷ rs) ss f d h = always-inside rs ss f (step (t .level) r d) (h .1 .1)
+
+  -- a frame's call is accepted wherever a cut may come
+  pub safe-accepted : (d : Device) (f : List ℕ) → Safe d → Fits (frame f) → Accepted (d .state) (length (d .array)) (length f) (length f)
+  safe-accepted d f h fits = record {
+    sound = h .sound;
+    sized = h .near .same-length ∙ rw (h .held .same-chip) (t .sized);
+    some = fits .0;
+    short = fits .1;
+    same = refl;
+  }

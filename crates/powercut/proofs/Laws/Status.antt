@@ -1,0 +1,85 @@
+-- Steps 1 and 4 of a plan: the two frames that write the protection bits. The byte sent is read back as it was meant.
+-- Assumes nothing.
+use mathlib.Core.Path.{_≡_, refl, ap, _∙_}
+use mathlib.Core.Bool.{Bool, true, false, _&&_, _||_, not}
+use mathlib.Core.List.{List, [], _∷_}
+use mathlib.Core.Logic.{_⊎_}
+use Prim.Native.Nat.{ℕ, _+_, _*_, _/_, _%_, _≤_}
+use native.Mathlib.Omega.{arith}
+use lib.Dec.{eqb}
+use Rattle.common.proofs.Laws.Choice.{cases}
+use Rattle.state.specs.declared.State.{State}
+use Rattle.state.specs.State.{dataOf}
+use Rattle.state.specs.Status.{bit}
+use Rattle.command.specs.declared.Command.the-variants.{WriteEnable, Arm, WriteStatus}
+use Rattle.command.specs.Registers.{has, stateAfter}
+use Rattle.record.specs.Record.{frame}
+use Rattle.steps.proofs.Laws.Flags.{bit-le}
+use Rattle.plan.specs.Plan.{statusByte, statusRecords}
+use Rattle.powercut.proofs.Laws.States.{rest}
+use Rattle.powercut.proofs.Laws.Safe.{Task, Held}
+use Rattle.powercut.proofs.Laws.Run.{Done, Runs, OnItsWay, ran-nil, ran-quiet}
+use Rattle.powercut.proofs.Laws.Frames.{write-enable, arm, write-status}
+
+-- ---- the byte
+
+digits : (bp : ℕ) (tb bpl : Bool) → statusByte bp tb bpl ≡ bp * 4 + bit tb 1 * 32 + bit bpl 1 * 128
+unfolding statusByte
+digits bp true true = refl
+digits bp true false = refl
+digits bp false true = refl
+digits bp false false = refl
+
+flag : (b : Bool) → eqb (bit b 1) 1 ≡ b
+flag true = refl
+flag false = refl
+
+module _ (bp : ℕ) (tb bpl : Bool) (low : bp ≤ 7) where
+  abbrev byte : ℕ
+  byte = statusByte bp tb bpl
+
+  level-back : byte / 4 % 8 ≡ bp
+  level-back = omega (arith, digits bp tb bpl, bit-le tb 1, bit-le bpl 1)
+
+  tb-back : has byte 32 ≡ tb
+  tb-back = let e : byte / 32 % 2 ≡ bit tb 1 = omega (arith, digits bp tb bpl, bit-le tb 1, bit-le bpl 1) in ap (λ (n : ℕ). eqb n 1) e ∙ flag tb
+
+  bpl-back : has byte 128 ≡ bpl
+  bpl-back = let e : byte / 128 % 2 ≡ bit bpl 1 = omega (arith, digits bp tb bpl, bit-le tb 1, bit-le bpl 1) in ap (λ (n : ℕ). eqb n 1) e ∙ flag bpl
+
+-- TB is written on a chip that has it
+has-tb : (t tb : Bool) → (tb ≡ true → t ≡ true) → t && tb ≡ tb
+has-tb true tb h = refl
+has-tb false true h = h refl
+has-tb false false h = refl
+
+pub status-written : (s : State) (bp to : ℕ) (wel : Bool) → to ≤ 7 → (s .tb ≡ true → dataOf s .topbottom ≡ true)
+    → stateAfter (rest s bp wel true) (WriteStatus (statusByte to (s .tb) (s .bpl))) ≡ rest s to false false
+unfolding stateAfter
+status-written s bp to wel low topped =
+    rw (level-back to (s .tb) (s .bpl) low, tb-back to (s .tb) (s .bpl) low, bpl-back to (s .tb) (s .bpl) low, has-tb (dataOf s .topbottom) (s .tb) topped) refl
+
+-- ---- the two frames
+
+-- the bits as they were given, at a level that is the given one or 000
+pub held-at : (given : State) (bp : ℕ) → (bp ≡ given .bp) ⊎ (bp ≡ 0) → Held given (given .chip) bp (given .tb) (given .bpl)
+held-at given bp l = record { same-chip = refl; level-held = l; same-tb = refl; same-bpl = refl }
+
+module _ (t : Task) (topped : t .state .tb ≡ true → dataOf (t .state) .topbottom ≡ true) (free : not (t .state .bpl) || t .level ≡ true) where
+  abbrev s : State
+  s = t .state
+
+  -- from one level to another
+  module _ (bp to : ℕ) (held : (bp ≡ s .bp) ⊎ (bp ≡ 0)) (held-to : (to ≡ s .bp) ⊎ (to ≡ 0)) (low : to ≤ 7)
+      (z : ℕ) (array : List ℕ) (near : OnItsWay t array) (done : Done t z array) where
+    second : (wel : Bool) → Runs t (rest s to false false) z (frame (0x01 ∷ statusByte to (s .tb) (s .bpl) ∷ []) ∷ []) (rest s bp wel true) array
+    second wel =
+        ran-quiet t (WriteStatus (statusByte to (s .tb) (s .bpl))) (write-status (t .level) s bp wel true (statusByte to (s .tb) (s .bpl)) free) refl (held-at s bp held) near
+        (rw (status-written s bp to wel low topped) (ran-nil t z (held-at s to held-to) near done))
+
+    pub status-ran : (wel armed : Bool) → Runs t (rest s to false false) z (statusRecords s to) (rest s bp wel armed) array
+    unfolding statusRecords stateAfter
+    status-ran wel armed =
+        cases (dataOf s .ewsr)
+        (λ e. rw e (ran-quiet t Arm (arm (t .level) s bp wel armed e) refl (held-at s bp held) near (second wel)))
+        (λ e. rw e (ran-quiet t WriteEnable (write-enable (t .level) s bp wel armed) refl (held-at s bp held) near (second true)))

@@ -1,0 +1,2 @@
+pub mod PowerCut
+pub mod Promises

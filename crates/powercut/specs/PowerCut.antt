@@ -1,0 +1,111 @@
+-- Demand 3 (00): a plan run on the chip it was made for, whole or with the power cut, and the plan made anew behind the cut.
+use mathlib.Core.Path.{_≡_}
+use mathlib.Core.Bool.{Bool, true, false, cond}
+use mathlib.Core.List.{List, [], _∷_, _++_}
+use mathlib.Core.Logic.{_⊎_}
+use Prim.Native.Nat.{ℕ, _+_, _-_}
+use lib.ListN.{length, getD}
+use Rattle.common.specs.Lists.{mapi}
+use Rattle.state.specs.declared.State.{State}
+use Rattle.state.specs.State.{withWel, withArmed}
+use Rattle.state.specs.Power.{powerUp}
+use Rattle.record.specs.Record.{Record, frame, AllBytes, encode}
+use Rattle.frame.specs.Effect.{maskLength}
+use Rattle.frame.specs.Call.{effectAt, frameNumber, cutAnswer, cutArray}
+use Rattle.common.specs.Bits.{bitAt}
+use Rattle.script.specs.declared.Ran.{Ran}
+use Rattle.script.specs.Run.{Device, device, run}
+use Rattle.script.specs.Script.{recordsOf}
+use Rattle.steps.specs.Region.{within}
+use Rattle.plan.specs.declared.Planned.{Planned}
+use Rattle.plan.specs.Plan.{planRecords}
+use Rattle.plan.specs.Refusals.{planRefusal}
+
+-- what plans: the records for a chip's state, its array, a start address and the wanted bytes
+abbrev pub Planner : Type 0
+Planner = State → List ℕ → ℕ → List ℕ → List Record
+
+-- the planner's script as the runner reads it: the records of its bytes
+abbrev pub scriptRecords : Planner
+scriptRecords s array start wanted = recordsOf (encode (planRecords s array start wanted))
+
+-- ---- what becomes of the array
+
+-- "the region exactly as wanted and the rest as it was"
+unfoldable pub updated : List ℕ → ℕ → List ℕ → List ℕ
+updated array start wanted = mapi (λ k x. cond (within start (length wanted) k) (getD wanted (k - start) 0) x) array
+
+-- "each bit of the region is as before or as wanted, and nothing outside has moved"
+pub record Partway (array : List ℕ) (start : ℕ) (wanted after : List ℕ) : Type 0 where
+  pub same-length : length after ≡ length array
+  pub region : (k b : ℕ) → within start (length wanted) k ≡ true
+      → (bitAt (getD after k 0) b ≡ bitAt (getD array k 0) b) ⊎ (bitAt (getD after k 0) b ≡ bitAt (getD wanted (k - start) 0) b)
+  pub outside : (k : ℕ) → within start (length wanted) k ≡ false → getD after k 0 ≡ getD array k 0
+
+-- ---- a plan run to its end
+
+-- the state behind it: the given one where there was nothing to do, else the given one with WEL and armed 0
+abbrev pub stateAfterPlan : List Record → State → State
+stateAfterPlan [] s = s
+stateAfterPlan (r ∷ rs) s = withArmed (withWel s false) false
+
+-- the records run uncut on a chip leave this array, and no call on the way is refused: no frame, and no power-up where the power might go
+pub record Completes (records : List Record) (wp : Bool) (chip : Device) (array : List ℕ) : Type 0 where
+  pub array-is : run wp records chip .array ≡ array
+  pub state-is : run wp records chip .state ≡ stateAfterPlan records (chip .state)
+  pub frames-taken : (before after : List Record) (f : List ℕ) → records ≡ before ++ (frame f ∷ after)
+      → frameNumber (run wp before chip .state) (length (run wp before chip .array)) (length f) (length f) ≡ 0
+  pub powers-up : (before after : List Record) → records ≡ before ++ after → powerUp (run wp before chip .state) .number ≡ 0
+
+-- ---- a plan cut short
+
+-- the power goes and comes back: the call "power it up again"
+abbrev pub powered : Device → Device
+powered chip = device (powerUp (chip .state) .state) (chip .array)
+
+-- it goes while a frame is run: the call "run an interrupted frame", its output a buffer of the frame's length
+abbrev pub interrupted : Bool → List ℕ → List ℕ → Device → Device
+interrupted wp f mask chip =
+    device (cutAnswer (chip .state) wp (chip .array) f f mask .state) (cutArray (chip .state) wp (chip .array) f f mask)
+
+-- "Cut the power between any two records, or inside any programming, with any part of the bits due to fall having fallen": the chip powered up.
+-- Between: also before the first record and behind the last. Inside: any frame, with any mask of "one byte for each array byte the frame programs"
+pub data CutShort (records : List Record) (wp : Bool) (chip : Device) : Device → Type 0 where
+  between : (before after : List Record) → records ≡ before ++ after → CutShort records wp chip (powered (run wp before chip))
+  inside : (before after : List Record) (f mask : List ℕ) → records ≡ before ++ (frame f ∷ after) → AllBytes mask
+      → length mask ≡ maskLength (effectAt (run wp before chip .state) wp f)
+      → CutShort records wp chip (interrupted wp f mask (run wp before chip))
+
+-- "planning again is accepted, and that plan, run uncut, leaves the region exactly as wanted and the rest as it was"
+pub record Recovers (plan : Planner) (wp : Bool) (array : List ℕ) (start : ℕ) (wanted : List ℕ) (room : ℕ) (chip : Device) : Type 0 where
+  pub partway : Partway array start wanted (chip .array)
+  pub accepted : planRefusal (chip .state) wp (chip .array) start wanted room ≡ 0
+  pub completes : Completes (plan (chip .state) (chip .array) start wanted) wp chip (updated array start wanted)
+
+-- ---- demand 3
+
+pub record PowerCutSafe (plan : Planner) (s : State) (wp : Bool) (array : List ℕ) (start : ℕ) (wanted : List ℕ) (room : ℕ) : Type 0 where
+  -- "An uncut first run does so too."
+  pub uncut : Completes (plan s array start wanted) wp (device s array) (updated array start wanted)
+  -- "Powered up, at the same level and with 22 bytes more room"
+  pub cut : (chip : Device) → CutShort (plan s array start wanted) wp (device s array) chip → Recovers plan wp array start wanted (room + 22) chip
+
+-- ---- for the layers above: the chip behind a plan
+
+-- run to its end
+unfoldable pub Finished : State → Bool → List ℕ → ℕ → List ℕ → Device → Type 0
+Finished s wp array start wanted chip = chip ≡ run wp (planRecords s array start wanted) (device s array)
+
+-- cut somewhere, and powered up
+unfoldable pub PowerLost : State → Bool → List ℕ → ℕ → List ℕ → Device → Type 0
+PowerLost s wp array start wanted chip = CutShort (planRecords s array start wanted) wp (device s array) chip
+
+-- ---- the same of the calls
+
+-- A plan's answer and buffer, and what running that script answers and leaves: accepted, the update complete, the counts as planned.
+pub record RunAsPlanned (s : State) (array : List ℕ) (start : ℕ) (wanted : List ℕ) (planned : Planned) (ran : Ran) (arrayAfter : List ℕ) : Type 0 where
+  pub number : ran .number ≡ 0
+  pub state-is : ran .state ≡ stateAfterPlan (planRecords s array start wanted) s
+  pub array-is : arrayAfter ≡ updated array start wanted
+  pub frames-are : ran .frames ≡ planned .frames
+  pub microseconds-are : ran .microseconds ≡ planned .microseconds
