@@ -6,7 +6,7 @@ ghost use lib.ListN.{length};
 ghost use Rattle.record.specs.Record.{encode};
 ghost use Rattle.steps.specs.Region.{Inside, wantedAt, changes};
 ghost use Rattle.steps.specs.Measure.{measureOf};
-ghost use Rattle.steps.specs.Buffer.{Put};
+ghost use Rattle.buffer.specs.Buffer.{Put};
 ghost use Rattle.pages.specs.Pages.{partRecords, stepThree};
 ghost use Rattle.pages.specs.Parts.{First, Behind, PagePart, PartIn};
 
@@ -116,8 +116,8 @@ fn put_part(start: usize, wanted: &[u8], part: Part, buffer: &mut [u8], at: usiz
     let behind = to - start;
     let enabled = steps::writer::put_frame(&[0x06], buffer, at);
     let headed = steps::writer::put_head(4 + (to - from), buffer, enabled);
-    let addressed = steps::writer::put(&[0x02, high, middle, low], buffer, headed);
-    let sent = steps::writer::put(&wanted[first..behind], buffer, addressed);
+    let addressed = buffer::put(&[0x02, high, middle, low], buffer, headed);
+    let sent = buffer::put(&wanted[first..behind], buffer, addressed);
     steps::writer::put_wait(1500, buffer, sent)
 }
 

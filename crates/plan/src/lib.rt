@@ -12,7 +12,7 @@ ghost use Rattle.common.specs.Refusals.{firstOf};
 ghost use Rattle.record.specs.Record.{encode};
 ghost use Rattle.steps.specs.Region.{Inside};
 ghost use Rattle.steps.specs.Measure.{measureOf};
-ghost use Rattle.steps.specs.Buffer.{Put};
+ghost use Rattle.buffer.specs.Buffer.{Put};
 ghost use Rattle.plan.specs.Plan.{stepOneNeeded, programStep, planRecords};
 ghost use Rattle.plan.specs.Refusals.{longestWanted, regionRefusals};
 ghost use Rattle.plan.specs.Update.{refusedPlan, PlanUpdated};

@@ -8,7 +8,7 @@ ghost use lib.ListN.{length};
 ghost use Rattle.record.specs.Record.{encode};
 ghost use Rattle.state.specs.State.{dataOf};
 ghost use Rattle.steps.specs.Region.{Inside};
-ghost use Rattle.steps.specs.Buffer.{Put};
+ghost use Rattle.buffer.specs.Buffer.{Put};
 ghost use Rattle.plan.specs.Plan.{stepOneNeeded, statusByte, statusStep, withStatus};
 
 // Whether a byte that changes is protected.

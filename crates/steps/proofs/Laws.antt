@@ -1,3 +1,3 @@
 pub mod Flags
-pub mod Buffer
+pub mod Records
 pub mod Region

@@ -1,3 +1,3 @@
 pub mod Region
 pub mod Measure
-pub mod Buffer
+pub mod Head

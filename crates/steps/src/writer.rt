@@ -1,23 +1,10 @@
 // Records laid into a lent buffer, one behind the other.
+use buffer::put;
 ghost use Prim.Native.Nat.{_+_, _≤_};
 ghost use lib.ListN.{length};
 ghost use Rattle.record.specs.Record.{longestFrame, encodeRecord, frame, wait};
-ghost use Rattle.steps.specs.Buffer.{Put, frameHead};
-
-// Copies the bytes into the buffer from `at` on; gives the index behind them.
-pub fn put(bytes: &[u8], buffer: &mut [u8], at: usize) -> usize
-    requires { ⌜ at + length (now bytes) ≤ length (now buffer) ⌝ }
-    ensures { λ r. ⌜ Put at (now (bytes .entry)) (now (buffer .entry)) (now (buffer .exit)) r ⌝ }
-{
-    let mut next = at;
-    let mut i: usize = 0;
-    while i < bytes.len() {
-        buffer[next] = bytes[i];
-        next += 1;
-        i += 1;
-    }
-    next
-}
+ghost use Rattle.buffer.specs.Buffer.{Put};
+ghost use Rattle.steps.specs.Head.{frameHead};
 
 // 5A 46 and a frame's length.
 pub fn put_head(n: usize, buffer: &mut [u8], at: usize) -> usize

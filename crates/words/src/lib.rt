@@ -7,7 +7,7 @@ ghost use lib.ListN.{length};
 ghost use Rattle.record.specs.Record.{encode};
 ghost use Rattle.steps.specs.Region.{Inside, wantedAt, changes};
 ghost use Rattle.steps.specs.Measure.{measureOf};
-ghost use Rattle.steps.specs.Buffer.{Put};
+ghost use Rattle.buffer.specs.Buffer.{Put};
 ghost use Rattle.words.specs.Words.{wordChanges, stepTwo};
 ghost use Rattle.words.specs.Walk.{wordRecords};
 

@@ -12,7 +12,7 @@ use Rattle.common.specs.Lists.{tab}
 use Rattle.common.proofs.Laws.Lists.{split, length-tab, getD-tab}
 use Rattle.record.specs.Record.{frame, wait, encodeRecord, encode}
 use Rattle.steps.specs.Region.{addressBytes, wantedAt}
-use Rattle.steps.specs.Buffer.{frameHead}
+use Rattle.steps.specs.Head.{frameHead}
 use Rattle.steps.proofs.Laws.Region.{wanted-inside}
 use Rattle.pages.specs.declared.Part.{Part}
 use Rattle.pages.specs.Pages.{beforeFirst, throughLast, partLength, partRecords}

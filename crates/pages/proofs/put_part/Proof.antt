@@ -8,8 +8,8 @@ use lib.ListN.{take, drop}
 use borrow.Author.Needs.{needs}
 use Rattle.record.specs.Record.{frame, encodeRecord, encode}
 use Rattle.steps.specs.Region.{addressBytes, wantedAt}
-use Rattle.steps.specs.Buffer.{frameHead}
-use Rattle.steps.proofs.Laws.Buffer.{Whole, left-start, left-room, left-turn, left-fits, left-last, put-none}
+use Rattle.steps.specs.Head.{frameHead}
+use Rattle.buffer.proofs.Laws.Buffer.{Whole, left-start, left-room, left-turn, left-fits, left-last, put-none}
 use Rattle.pages.specs.Pages.{partRecords}
 use Rattle.pages.proofs.Laws.Parts.{partBytes, part-bytes}
 use Rattle.pages.proofs.put_part.Statement.{statement}

@@ -11,9 +11,9 @@ use Rattle.record.specs.Record.{Record, encode, framesIn, microsecondsIn}
 use Rattle.record.proofs.Laws.Records.{encoded-length}
 use Rattle.state.specs.declared.State.{State}
 use Rattle.steps.specs.declared.measure.Measure.{Measure}
-use Rattle.steps.specs.Buffer.{written}
+use Rattle.buffer.specs.Buffer.{written}
 use Rattle.steps.specs.Measure.{measureOf}
-use Rattle.steps.proofs.Laws.Buffer.{written-front}
+use Rattle.buffer.proofs.Laws.Buffer.{written-front}
 use Rattle.plan.specs.declared.Planned.{Planned}
 use Rattle.plan.specs.Plan.{planRecords}
 use Rattle.plan.specs.Refusals.{planRefusal}

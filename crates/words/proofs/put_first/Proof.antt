@@ -5,7 +5,8 @@ use native.Mathlib.Omega.{arith}
 use borrow.Author.Needs.{needs}
 use Rattle.record.specs.Record.{encode}
 use Rattle.steps.specs.Region.{wantedAt}
-use Rattle.steps.proofs.Laws.Buffer.{Whole, left-start, record-room, record-turn, records-done}
+use Rattle.buffer.proofs.Laws.Buffer.{Whole, left-start}
+use Rattle.steps.proofs.Laws.Records.{record-room, record-turn, records-done}
 use Rattle.words.specs.Walk.{wordRecords}
 use Rattle.words.proofs.put_first.Statement.{statement}
 use Rattle.words.proofs.put_first.Tie as tie

@@ -4,7 +4,8 @@ use native.Mathlib.Omega.{arith}
 use borrow.Author.Tests.{not-true, not-false}
 use borrow.Author.Needs.{needs}
 use Rattle.record.specs.Record.{encode}
-use Rattle.steps.proofs.Laws.Buffer.{Whole, left-start, record-room, record-turn, records-done, put-none}
+use Rattle.buffer.proofs.Laws.Buffer.{Whole, left-start, put-none}
+use Rattle.steps.proofs.Laws.Records.{record-room, record-turn, records-done}
 use Rattle.plan.specs.Plan.{statusRecords}
 use Rattle.plan.proofs.status.put_status.Statement.{statement}
 use Rattle.plan.proofs.status.put_status.Tie as tie

@@ -3,8 +3,8 @@
 use lib.ListN.{length}
 use borrow.Author.Needs.{needs}
 use Rattle.record.specs.Record.{frame, encodeRecord}
-use Rattle.steps.specs.Buffer.{frameHead}
-use Rattle.steps.proofs.Laws.Buffer.{Whole, left-start, left-room, left-turn, left-fits, left-last}
+use Rattle.steps.specs.Head.{frameHead}
+use Rattle.buffer.proofs.Laws.Buffer.{Whole, left-start, left-room, left-turn, left-fits, left-last}
 use Rattle.steps.proofs.writer.put_frame.Statement.{statement}
 use Rattle.steps.proofs.writer.put_frame.Tie as tie
 

@@ -1,7 +1,7 @@
 -- Bytes laid into a lent buffer.
 use mathlib.Core.Path.{_≡_}
-use mathlib.Core.List.{List, [], _∷_, _++_}
-use Prim.Native.Nat.{ℕ, _+_, _/_, _%_}
+use mathlib.Core.List.{List, _++_}
+use Prim.Native.Nat.{ℕ, _+_}
 use lib.ListN.{length, take, drop}
 
 -- the buffer with these bytes from an index on, "the rest untouched"
@@ -12,7 +12,3 @@ written at bytes buffer = take at buffer ++ (bytes ++ drop (at + length bytes) b
 pub record Put (at : ℕ) (bytes before after : List ℕ) (next : ℕ) : Type 0 where
   pub behind : next ≡ at + length bytes
   pub stored : after ≡ written at bytes before
-
--- what stands before the bytes of a frame: "5A 46, a length of two bytes, high first"
-abbrev pub frameHead : ℕ → List ℕ
-frameHead n = 0x5a ∷ 0x46 ∷ n / 256 ∷ n % 256 ∷ []

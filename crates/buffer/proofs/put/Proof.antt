@@ -1,11 +1,11 @@
--- `steps::writer::put` meets its contract: the invariant says that with the bytes left the buffer will be as it is to be.
+-- `buffer::put` meets its contract: the invariant says that with the bytes left the buffer will be as it is to be.
 -- Assumes nothing.
 use Prim.Native.Nat.{_-_, _≤_}
 use native.Mathlib.Omega.{arith}
 use lib.ListN.{length, drop}
-use Rattle.steps.proofs.Laws.Buffer.{Left, left-start, byte-room, byte-turn, byte-last}
-use Rattle.steps.proofs.writer.put.Statement.{statement}
-use Rattle.steps.proofs.writer.put.Tie as tie
+use Rattle.buffer.proofs.Laws.Buffer.{Left, left-start, byte-room, byte-turn, byte-last}
+use Rattle.buffer.proofs.put.Statement.{statement}
+use Rattle.buffer.proofs.put.Tie as tie
 
 abbrev Inv-loop : tie.InvT-loop
 Inv-loop bytes buffer₀ at next₀ i₀ buffer next i = (i ≤ length bytes) × Left next (drop i bytes) buffer at bytes buffer₀

@@ -8,8 +8,7 @@ use native.Mathlib.Numerals.{add-one}
 use native.Mathlib.Omega.{arith}
 use lib.ListN.{length, take, drop, set, length-append, length-take, length-drop, take-append-drop, drop-of-length-le, getD}
 use lib.Seq.{set-split, take-at, length-take-le, drop-append-add, drop-drop, drop-cons}
-use Rattle.record.specs.Record.{Record, encodeRecord, encode}
-use Rattle.steps.specs.Buffer.{written, Put}
+use Rattle.buffer.specs.Buffer.{written, Put}
 
 pub written-nil : (at : ℕ) (buffer : List ℕ) → written at [] buffer ≡ buffer
 unfolding written
@@ -47,6 +46,11 @@ put-none at buffer = record { behind = omega arith; stored = sym (written-nil at
 
 pub put-one : (at x : ℕ) (buffer : List ℕ) → at < length buffer → Put at (x ∷ []) buffer (set buffer at x) (at + 1)
 put-one at x buffer h = record { behind = omega arith; stored = sym (written-one at x buffer h) }
+
+-- what was laid at the front lies within the buffer
+pub front-within : {bytes before after : List ℕ} {next : ℕ} → Put 0 bytes before after next → next ≤ length after
+front-within {bytes} {before} p =
+    omega (arith, p .behind, ap length (p .stored ∙ written-front bytes before), length-append bytes (drop (length bytes) before))
 
 -- ---- bytes laid one after another, by calls or by a loop
 
@@ -90,20 +94,6 @@ left-last l p = record { behind = p .behind ∙ l .ends; stored = p .stored ∙ 
 -- nothing is left
 pub left-none : {at at₀ : ℕ} {buffer all buffer₀ : List ℕ} → Left at [] buffer at₀ all buffer₀ → Put at₀ all buffer₀ buffer at
 left-none {at} {at₀} {buffer} l = left-last l (put-none at buffer)
-
--- the same record by record
-module _ (r : Record) (rs : List Record) {at at₀ : ℕ} {buffer all buffer₀ : List ℕ} (l : Left at (encode (r ∷ rs)) buffer at₀ all buffer₀) where
-  pub record-room : at + length (encodeRecord r) ≤ length buffer
-  unfolding encode
-  record-room = left-room (encodeRecord r) (encode rs) l
-
-  pub record-turn : {next : ℕ} {after : List ℕ} → Put at (encodeRecord r) buffer after next → Left next (encode rs) after at₀ all buffer₀
-  unfolding encode
-  record-turn p = left-turn (encodeRecord r) (encode rs) l p
-
-pub records-done : {at at₀ : ℕ} {buffer all buffer₀ : List ℕ} → Left at (encode []) buffer at₀ all buffer₀ → Put at₀ all buffer₀ buffer at
-unfolding encode
-records-done l = left-none l
 
 -- a loop that copies byte by byte, at its turn i
 module _ {next i at : ℕ} {bytes buffer buffer₀ : List ℕ} (l : Left next (drop i bytes) buffer at bytes buffer₀) where

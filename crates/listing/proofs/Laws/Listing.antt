@@ -1,0 +1,178 @@
+-- The laws of `listing`: what a run on a new chip tells of it, how long it is, what it is at the edges. Two results of the call are equal.
+-- Assumes nothing.
+use mathlib.Core.Path.{_≡_, refl, sym, ap, _∙_}
+use mathlib.Core.Bool.{Bool, true, false, cond, not}
+use mathlib.Core.List.{List, [], _∷_, _++_}
+use Prim.Native.Nat.{ℕ, _+_, _≤_, _<_}
+use native.Mathlib.Omega.{arith}
+use lib.Dec.{ltb, eqb}
+use lib.ListN.{length, length-append, length-replicate}
+use borrow.Author.Tests.{eqb-true, eq-eqb, lt-ltb, le-ltb, ltb-true, ltb-false}
+use Rattle.common.proofs.Laws.Choice.{cond-elim, cases, yes, no}
+use Rattle.state.specs.declared.State.{State}
+use Rattle.state.specs.Chip.{isKnown, chipOf}
+use Rattle.state.specs.State.{dataOf}
+use Rattle.state.specs.Power.{newState, newChip}
+use Rattle.state.specs.Status.{statusOf}
+use Rattle.state.proofs.Laws.Power.{new-sound}
+use Rattle.record.specs.Record.{Record, longestScript, outputLength}
+use Rattle.record.specs.Decode.{Fault, unknownMark, wrongLength, cutShort, faultNumber, Decoded, records, badAt, decode, decodeWithin}
+use Rattle.record.specs.Survey.{surveyOf, surveyed, refusedSurvey}
+use Rattle.record.specs.declared.survey.Survey.{Survey}
+use Rattle.record.proofs.Laws.Decode.{decoded-length, decoded-output}
+use Rattle.record.proofs.Laws.Survey.{fault-numbered, survey-long, survey-short, Whole, survey-whole}
+use Rattle.script.specs.declared.Ran.{Ran}
+use Rattle.script.specs.Run.{Device, device, run, outputs}
+use Rattle.script.specs.Script.{recordsIn, recordsOf, scriptNumber, surveyedNumber, scriptAnswer, scriptOutput, ScriptRun}
+use Rattle.script.proofs.Laws.Accepted.{number-surveyed}
+use Rattle.script.proofs.Laws.Run.{outputs-length}
+use Rattle.buffer.specs.Buffer.{Put}
+use Rattle.listing.specs.Text.{digit, hex, decimal, line}
+use Rattle.listing.specs.Listing.{high, erased, new05pa, statusLine, refusalLine, frameLines, decodedLines, listing, cutLines}
+use Rattle.listing.proofs.Laws.Text.{length-line, length-hex, decimal-short}
+use Rattle.listing.proofs.Laws.Frames.{lines-cut, cut-length}
+
+-- ---- a script's survey
+
+-- by the script's length, and by what its bytes are
+by-survey : (P : List ℕ → Survey → List ℕ → Type 0)
+    → ((script : List ℕ) → longestScript < length script → P script (refusedSurvey 11 0) (refusalLine 11))
+    → ((script : List ℕ) (rs : List Record) → length script ≤ longestScript → decode script ≡ records rs → P script (surveyed (records rs)) (decodedLines (records rs)))
+    → ((script : List ℕ) (fault : Fault) (offset : ℕ) → P script (surveyed (badAt fault offset)) (decodedLines (badAt fault offset)))
+    → (script : List ℕ) → P script (surveyOf script) (listing script)
+unfolding listing
+by-survey P long good bad script =
+    cases (ltb longestScript (length script))
+    (λ t. rw (t, survey-long script (ltb-true longestScript (length script) t)) (long script (ltb-true longestScript (length script) t)))
+    (λ t. rw (t, survey-short script (ltb-false longestScript (length script) t))
+    (by-decoded (ltb-false longestScript (length script) t) (decode script) refl))
+  where
+    by-decoded : length script ≤ longestScript → (d : Decoded) → decode script ≡ d → P script (surveyed d) (decodedLines d)
+    by-decoded short (records rs) e = good script rs short e
+    by-decoded short (badAt fault offset) e = bad script fault offset
+
+fault-small : (fault : Fault) → faultNumber fault < 100
+fault-small unknownMark = omega arith
+fault-small wrongLength = omega arith
+fault-small cutShort = omega arith
+
+-- a refusal's number has at most two digits
+pub number-small : (script : List ℕ) → surveyOf script .number < 100
+number-small =
+    by-survey (λ script s text. s .number < 100) (λ _ _. omega arith) (λ _ _ _ _. omega arith) (λ _ fault _. fault-small fault)
+
+-- the outputs are no longer than the longest script
+pub output-small : (script : List ℕ) → surveyOf script .output ≤ longestScript
+output-small =
+    by-survey (λ script s text. s .output ≤ longestScript) (λ _ _. omega arith)
+    (λ script rs short e. omega (arith, short, decoded-output script rs e)) (λ _ _ _. omega arith)
+
+pub refusal-length : (number : ℕ) → length (refusalLine number) ≤ 5
+refusal-length number = omega (arith, length-line 0x52 (decimal number), decimal-short number)
+
+status-length : (d : Device) → length (statusLine d) ≡ 5
+status-length d = length-line 0x53 (hex (statusOf (d .state) ∷ [])) ∙ omega (arith, length-hex (statusOf (d .state) ∷ []))
+
+-- two characters for each byte of the longest script, and the last line's five
+pub listing-fits : (script : List ℕ) → length (listing script) ≤ 65541
+listing-fits =
+    by-survey (λ script s text. length text ≤ 65541) (λ _ _. omega (arith, refusal-length 11))
+    (λ script rs short e. let d = run high rs new05pa in
+    rw (lines-cut rs new05pa)
+    (omega (
+      arith,
+      length-append (cutLines rs (outputs high rs new05pa)) (statusLine d),
+      cut-length rs (outputs high rs new05pa),
+      decoded-length script rs e,
+      status-length d,
+    )))
+    (λ _ fault _. omega (arith, refusal-length (faultNumber fault)))
+
+-- they are counted
+output-surveyed : (script : List ℕ) → surveyOf script .number ≡ 0 → outputLength (recordsOf script) ≡ surveyOf script .output
+output-surveyed =
+    by-survey (λ script s text. s .number ≡ 0 → outputLength (recordsOf script) ≡ s .output) (λ _ _ e. absurd (omega (arith, e)))
+    (λ script rs short d _. rw d refl) (λ _ fault _ e. absurd (omega (arith, e, fault-numbered fault)))
+
+-- ---- a run on a new chip
+
+-- a refused script, and one that is run
+pub listing-refused : (script : List ℕ) → (surveyOf script .number ≡ 0 → ⊥) → listing script ≡ refusalLine (surveyOf script .number)
+listing-refused =
+    by-survey (λ script s text. (s .number ≡ 0 → ⊥) → text ≡ refusalLine (s .number)) (λ _ _ _. refl) (λ _ _ _ _ h. absurd (h refl)) (λ _ _ _ _. refl)
+
+pub listing-run : (script : List ℕ) → surveyOf script .number ≡ 0
+    → listing script ≡ frameLines (recordsOf script) new05pa ++ statusLine (run high (recordsOf script) new05pa)
+listing-run =
+    by-survey
+    (λ script s text. s .number ≡ 0 → text ≡ frameLines (recordsOf script) new05pa ++ statusLine (run high (recordsOf script) new05pa))
+    (λ _ _ e. absurd (omega (arith, e))) (λ script rs short d _. rw d refl) (λ _ fault _ e. absurd (omega (arith, e, fault-numbered fault)))
+
+erased-length : length erased ≡ dataOf (newChip 5 .state) .size
+unfolding erased newChip newState isKnown chipOf
+erased-length = length-replicate {A = ℕ} 65536 0xff
+
+-- the chip is sound and its array has its size, so that only the script can be refused
+number-surveyed-new : (script : List ℕ) (out : ℕ) → out ≡ surveyOf script .output
+    → scriptNumber (newChip 5 .state) (length erased) script out ≡ surveyOf script .number
+unfolding surveyedNumber
+number-surveyed-new script out e =
+    sym (number-surveyed (newChip 5 .state) (length erased) script out)
+    ∙ rw (
+      new-sound 5,
+      eq-eqb (length erased) (dataOf (newChip 5 .state) .size) erased-length,
+      eq-eqb out (surveyOf script .output) e,
+    ) (by-number (surveyOf script .number))
+  where
+    by-number : (n : ℕ) → cond (not (eqb n 0)) n 0 ≡ n
+    by-number n = cases (eqb n 0) (λ t. rw t (sym (eqb-true n 0 t))) (λ t. rw t refl)
+
+-- with room for the outputs: what the answer and the output tell
+module _ {script room array output : List ℕ} {ran : Ran} (lent : length room ≡ surveyOf script .output)
+    (r : ScriptRun (newChip 5 .state) high erased script room ran array output) where
+  abbrev number : ℕ
+  number = scriptNumber (newChip 5 .state) (length erased) script (length room)
+
+  number-is : number ≡ surveyOf script .number
+  number-is = number-surveyed-new script (length room) lent
+
+  pub ran-number : ran .number ≡ surveyOf script .number
+  unfolding scriptAnswer
+  ran-number =
+      ap (λ (a : Ran). a .number) (r .answers)
+      ∙ cond-elim (λ (a : Ran). a .number ≡ surveyOf script .number) (eqb number 0) (λ t. sym (eqb-true number 0 t) ∙ number-is) (λ _. number-is)
+
+  module _ (e : ran .number ≡ 0) where
+    taken : number ≡ 0
+    taken = number-is ∙ sym ran-number ∙ e
+
+    ran-state : ran .state ≡ run high (recordsOf script) new05pa .state
+    unfolding scriptAnswer
+    ran-state = ap (λ (a : Ran). a .state) (rw (eq-eqb number 0 taken) at (r .answers))
+
+    ran-output : output ≡ outputs high (recordsOf script) new05pa
+    unfolding scriptOutput
+    ran-output = rw (eq-eqb number 0 taken) at (r .output-is)
+
+    pub ran-length : length output ≡ surveyOf script .output
+    ran-length = ap length ran-output ∙ outputs-length high (recordsOf script) new05pa ∙ output-surveyed script (sym ran-number ∙ e)
+
+    pub ran-listing : listing script ≡ cutLines (recordsOf script) output ++ line 0x53 (hex (statusOf (ran .state) ∷ []))
+    ran-listing =
+        rw (ran-output, ran-state, ← lines-cut (recordsOf script) new05pa) (listing-run script (sym ran-number ∙ e))
+
+-- ---- edges
+
+-- the empty input: "S 00" alone
+pub listing-empty : listing [] ≡ 0x53 ∷ 0x20 ∷ 0x30 ∷ 0x30 ∷ 0x0a ∷ []
+unfolding listing decode decodeWithin frameLines run statusOf newChip newState isKnown chipOf hex digit
+listing-empty = refl
+
+-- over 32,768 bytes: "R 11"
+pub listing-long : (script : List ℕ) → longestScript < length script → listing script ≡ 0x52 ∷ 0x20 ∷ 0x31 ∷ 0x31 ∷ 0x0a ∷ []
+unfolding listing decimal digit
+listing-long script h = rw (lt-ltb longestScript (length script) h) refl
+
+pub listing-determined : (script text : List ℕ) (after after′ : List ℕ) (n n′ : ℕ) → Put 0 (listing script) text after n → Put 0 (listing script) text after′ n′
+    → (n ≡ n′) × (after ≡ after′)
+listing-determined script text after after′ n n′ p q = (p .behind ∙ sym (q .behind), p .stored ∙ sym (q .stored))

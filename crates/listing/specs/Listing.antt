@@ -1,0 +1,55 @@
+-- What program `play` prints of a script (01): run "on a new, erased 05PA, WP high".
+use mathlib.Core.Bool.{Bool, true, cond}
+use mathlib.Core.List.{List, [], _∷_, _++_}
+use Prim.Native.Nat.{ℕ}
+use lib.Dec.{ltb}
+use lib.ListN.{length, replicate, take, drop}
+use Rattle.state.specs.Power.{newChip}
+use Rattle.state.specs.Status.{statusOf}
+use Rattle.record.specs.Record.{Record, frame, wait, longestScript}
+use Rattle.record.specs.Decode.{faultNumber, Decoded, records, badAt, decode}
+use Rattle.script.specs.Run.{Device, device, step, outputOf, run}
+use Rattle.listing.specs.Text.{hex, decimal, line}
+
+abbrev pub high : Bool
+high = true
+
+-- the 65,536 bytes of an erased 05PA
+unfoldable pub erased : List ℕ
+erased = replicate 65536 0xff
+
+abbrev pub new05pa : Device
+new05pa = device (newChip 5 .state) erased
+
+-- "F, a space, its output in capital hex without gaps"
+abbrev pub frameLine : List ℕ → List ℕ
+frameLine output = line 0x46 (hex output)
+
+-- "S, a space, the status"
+abbrev pub statusLine : Device → List ℕ
+statusLine d = line 0x53 (hex (statusOf (d .state) ∷ []))
+
+-- "R, a space, the number"
+abbrev pub refusalLine : ℕ → List ℕ
+refusalLine number = line 0x52 (decimal number)
+
+-- "One line a frame", in its place in the run; a wait has none
+unfoldable pub frameLines : List Record → Device → List ℕ
+frameLines [] d = []
+frameLines (frame f ∷ rs) d = frameLine (outputOf high (frame f) d) ++ frameLines rs (step high (frame f) d)
+frameLines (wait n ∷ rs) d = frameLines rs (step high (wait n) d)
+
+-- the status comes "last"; "a refusal is one line"
+abbrev pub decodedLines : Decoded → List ℕ
+decodedLines (records rs) = frameLines rs new05pa ++ statusLine (run high rs new05pa)
+decodedLines (badAt fault offset) = refusalLine (faultNumber fault)
+
+-- 11 is checked before 12
+unfoldable pub listing : List ℕ → List ℕ
+listing script = cond (ltb longestScript (length script)) (refusalLine 11) (decodedLines (decode script))
+
+-- the frames' lines made of all their outputs, laid "one after another"
+unfoldable pub cutLines : List Record → List ℕ → List ℕ
+cutLines [] output = []
+cutLines (frame f ∷ rs) output = frameLine (take (length f) output) ++ cutLines rs (drop (length f) output)
+cutLines (wait n ∷ rs) output = cutLines rs output

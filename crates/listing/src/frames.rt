@@ -1,0 +1,37 @@
+// One line a frame.
+use crate::text::put_hex_line;
+use record::reader::Found;
+use record::reader::record_at;
+ghost use mathlib.Core.Path.{_≡_};
+ghost use Prim.Native.Nat.{_*_, _≤_};
+ghost use lib.ListN.{length};
+ghost use Rattle.record.specs.Record.{longestScript};
+ghost use Rattle.record.specs.Survey.{surveyOf};
+ghost use Rattle.script.specs.Script.{recordsOf};
+ghost use Rattle.buffer.specs.Buffer.{Put};
+ghost use Rattle.listing.specs.Listing.{cutLines};
+
+// The script has been run: its outputs lie one after another.
+pub(crate) fn put_frame_lines(script: &[u8], output: &[u8], text: &mut [u8]) -> usize
+    requires { ⌜ surveyOf (now script) .number ≡ 0 ⌝ }
+    requires { ⌜ length (now output) ≡ surveyOf (now script) .output ⌝ }
+    requires { ⌜ 2 * longestScript ≤ length (now text) ⌝ }
+    ensures { λ r. ⌜ Put 0 (cutLines (recordsOf (now (script .entry))) (now (output .entry))) (now (text .entry)) (now (text .exit)) r ⌝ }
+{
+    let mut at: usize = 0;
+    let mut shown: usize = 0;
+    let mut next_line: usize = 0;
+    loop {
+        let found = record_at(script, at);
+        match found {
+            Found::Frame { length, next, .. } => {
+                let end = shown + length;
+                next_line = put_hex_line(b'F', &output[shown..end], text, next_line);
+                shown = end;
+                at = next;
+            }
+            Found::Wait { next, .. } => at = next,
+            _ => return next_line,
+        }
+    }
+}

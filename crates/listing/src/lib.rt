@@ -1,0 +1,53 @@
+// What program `play` prints of a script (01): the outputs of its frames and the status, or why it is refused.
+mod frames;
+mod text;
+
+use record::reader::LONGEST_SCRIPT;
+ghost use mathlib.Core.Path.{_≡_};
+ghost use Prim.Native.Nat.{_≤_};
+ghost use lib.ListN.{length};
+ghost use Rattle.buffer.specs.Buffer.{Put};
+ghost use Rattle.listing.specs.Listing.{erased, listing};
+
+// A frame of n bytes takes 4 + n bytes of the script and 2 n + 3 characters; the last line has 5.
+pub const LONGEST_LISTING: usize = 2 * LONGEST_SCRIPT + 5;
+
+// A new F25L05PA's bytes.
+fn erased_array() -> [u8; 65536]
+    ensures { λ r. ⌜ r ≡ erased ⌝ }
+{
+    [0xff; 65536]
+}
+
+// Room for the outputs of a script, which are no longer than the script.
+fn output_room() -> [u8; LONGEST_SCRIPT]
+    ensures { λ r. ⌜ 32768 ≡ length r ⌝ }
+{
+    [0; LONGEST_SCRIPT]
+}
+
+// Write the listing of a script at the front of the text; gives its length.
+pub fn listing(script: &[u8], text: &mut [u8; LONGEST_LISTING]) -> usize
+    ensures { λ r. ⌜ Put 0 (listing (now (script .entry))) (now (text .entry)) (now (text .exit)) r ⌝ }
+{
+    let survey = record::survey::survey_of(script);
+    let mut array = erased_array();
+    let mut output = output_room();
+    let ran = script::run_script(
+        state::power::new_chip(5).state,
+        true,
+        &mut array,
+        script,
+        &mut output[..survey.output],
+    );
+    if ran.number != 0 {
+        return text::put_refusal(ran.number, text, 0);
+    }
+    let last_line = frames::put_frame_lines(script, &output[..survey.output], text);
+    text::put_hex_line(
+        b'S',
+        &[state::status::status_of(ran.state)],
+        text,
+        last_line,
+    )
+}

@@ -1,0 +1,80 @@
+// Lines of text, written into a lent buffer one behind the other.
+use buffer::put;
+ghost use mathlib.Core.Path.{_≡_};
+ghost use mathlib.Core.List.{[], _∷_};
+ghost use Prim.Native.Nat.{_+_, _≤_, _<_};
+ghost use lib.ListN.{length};
+ghost use Rattle.buffer.specs.Buffer.{Put};
+ghost use Rattle.listing.specs.Text.{digit, pair, hex, decimal, line};
+ghost use Rattle.listing.specs.Listing.{refusalLine};
+
+// The character of a digit below 16.
+fn digit(value: u8) -> u8
+    requires { ⌜ value < 16 ⌝ }
+    ensures { λ r. ⌜ r ≡ digit value ⌝ }
+{
+    if value < 10 {
+        b'0' + value
+    } else {
+        b'A' + (value - 10)
+    }
+}
+
+// A byte's two digits.
+fn put_pair(byte: u8, text: &mut [u8], at: usize) -> usize
+    requires { ⌜ at + 2 ≤ length (now text) ⌝ }
+    ensures { λ r. ⌜ Put at (pair byte) (now (text .entry)) (now (text .exit)) r ⌝ }
+{
+    put(&[digit(byte / 16), digit(byte % 16)], text, at)
+}
+
+// Each byte's, without gaps.
+fn put_hex(bytes: &[u8], text: &mut [u8], at: usize) -> usize
+    requires { ⌜ at + length (hex (now bytes)) ≤ length (now text) ⌝ }
+    ensures { λ r. ⌜ Put at (hex (now (bytes .entry))) (now (text .entry)) (now (text .exit)) r ⌝ }
+{
+    let mut next = at;
+    let mut i: usize = 0;
+    while i < bytes.len() {
+        next = put_pair(bytes[i], text, next);
+        i += 1;
+    }
+    next
+}
+
+// A number below 100.
+fn put_decimal(number: u32, text: &mut [u8], at: usize) -> usize
+    requires { ⌜ number < 100 ⌝ }
+    requires { ⌜ at + length (decimal number) ≤ length (now text) ⌝ }
+    ensures { λ r. ⌜ Put at (decimal number) (now (text .entry)) (now (text .exit)) r ⌝ }
+{
+    if number < 10 {
+        return put(&[digit(number as u8)], text, at);
+    }
+    put(
+        &[digit((number / 10) as u8), digit((number % 10) as u8)],
+        text,
+        at,
+    )
+}
+
+// A letter and what bytes it stands for, in hex.
+pub(crate) fn put_hex_line(letter: u8, bytes: &[u8], text: &mut [u8], at: usize) -> usize
+    requires { ⌜ at + length (line letter (hex (now bytes))) ≤ length (now text) ⌝ }
+    ensures { λ r. ⌜ Put at (line letter (hex (now (bytes .entry)))) (now (text .entry)) (now (text .exit)) r ⌝ }
+{
+    let begun = put(&[letter, b' '], text, at);
+    let told = put_hex(bytes, text, begun);
+    put(&[b'\n'], text, told)
+}
+
+// The line of a refusal.
+pub(crate) fn put_refusal(number: u32, text: &mut [u8], at: usize) -> usize
+    requires { ⌜ number < 100 ⌝ }
+    requires { ⌜ at + length (refusalLine number) ≤ length (now text) ⌝ }
+    ensures { λ r. ⌜ Put at (refusalLine number) (now (text .entry)) (now (text .exit)) r ⌝ }
+{
+    let begun = put(&[b'R', b' '], text, at);
+    let told = put_decimal(number, text, begun);
+    put(&[b'\n'], text, told)
+}
