@@ -1,5 +1,3 @@
 pub mod Rows
 pub mod Fits
 pub mod Carries
-pub mod Kept
-pub mod Output

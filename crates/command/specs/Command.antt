@@ -7,7 +7,7 @@ use lib.ListN.{getD, length}
 use Rattle.state.specs.declared.State.{State}
 use Rattle.state.specs.State.{dataOf}
 use Rattle.state.specs.Protection.{firstProtected}
-use Rattle.opcode.specs.Kinds.{
+use Rattle.chip.specs.Kinds.{
   read,
   fastRead,
   sectorErase,
@@ -26,7 +26,7 @@ use Rattle.opcode.specs.Kinds.{
   jedecId,
   rdid,
 }
-use Rattle.opcode.specs.Instructions.{kindOf}
+use Rattle.chip.specs.Instructions.{kindOf}
 use Rattle.command.specs.declared.Command.{Command}
 use Rattle.command.specs.declared.Command.the-variants.{
   Ignored,

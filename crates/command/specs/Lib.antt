@@ -1,4 +1,2 @@
 pub mod Command
-pub mod Registers
-pub mod Output
 pub mod Fits

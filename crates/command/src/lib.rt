@@ -1,6 +1,4 @@
 // A frame understood: what document 01's table says of it, with all that the row needs worked out.
-pub mod output;
-pub mod registers;
 pub mod rows;
 pub mod understand;
 

@@ -13,7 +13,7 @@ ghost use Rattle.command.specs.Command.{when, long, address, writable, e
 fn address_of(s: State, input: &[u8]) -> u32
     ensures { λ r. ⌜ (r ≡ address s (now (input .entry))) × (r < 1048576) ⌝ }
 {
-    let size = state::chip::chip_of(s.chip).size;
+    let size = chip::chip_of(s.chip).size;
     (common::wide(common::byte_at(input, 1)) * 65536
         + common::wide(common::byte_at(input, 2)) * 256
         + common::wide(common::byte_at(input, 3)))
@@ -98,7 +98,7 @@ pub fn erase_block(s: State, input: &[u8]) -> Command
         s,
         address_of(s, input) / 65536 * 65536,
         65536,
-        state::chip::chip_of(s.chip).blocktime,
+        chip::chip_of(s.chip).blocktime,
     )
 }
 
@@ -108,7 +108,7 @@ pub fn erase_chip(s: State, input: &[u8]) -> Command
     if input.len() != 1 {
         return Command::Ignored;
     }
-    let chip = state::chip::chip_of(s.chip);
+    let chip = chip::chip_of(s.chip);
     erase_of(s, 0, chip.size, chip.chiptime)
 }
 

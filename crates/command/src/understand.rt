@@ -1,7 +1,7 @@
 // What a frame is at a state and a level of WP: the opcode's number decides.
 use crate::Command;
 use crate::rows;
-use opcode::kinds;
+use chip::kinds;
 use state::State;
 ghost use mathlib.Core.Path.{_≡_};
 ghost use mathlib.Core.List.{[], _∷_};
@@ -84,5 +84,5 @@ pub fn command_of(s: State, wp: bool, input: &[u8]) -> Command
     if s.down {
         return asleep(op);
     }
-    by_kind(s, wp, opcode::kind_of(s.chip, op), input)
+    by_kind(s, wp, chip::kind_of(s.chip, op), input)
 }

@@ -4,3 +4,5 @@ pub mod Lists
 pub mod Refusals
 pub mod Pairs
 pub mod Bits
+pub mod Flags
+pub mod Buffer

@@ -1,4 +1,5 @@
 // What every layer uses: bytes of a slice, read without a fault at any index, and runs of them.
+pub mod buffer;
 pub mod runs;
 
 ghost use mathlib.Core.Path.{_≡_};

@@ -1,12 +1,7 @@
-pub mod Effect
 pub mod Inside
 pub mod Supplied
 pub mod Accepted
 pub mod Call
-pub mod Turn
-pub mod Mask
-pub mod Page
-pub mod Cut
 pub mod Array
 pub mod Sound
 pub mod Determined

@@ -14,11 +14,12 @@ use Rattle.state.specs.Answer.{answered}
 use Rattle.state.specs.Soundness.{isSound}
 use Rattle.state.specs.Power.{poweredUp}
 use Rattle.command.specs.Command.{commandOf}
-use Rattle.command.specs.Registers.{stateAfter}
-use Rattle.command.specs.Output.{memory, shownAt}
-use Rattle.frame.specs.declared.effect.Effect.{Effect}
-use Rattle.frame.specs.Effect.{effectOf, changed, maskLength}
-use Rattle.frame.specs.Cut.{cut}
+use Rattle.registers.specs.Registers.{stateAfter}
+use Rattle.output.specs.Output.{memory, shownAt}
+use Rattle.effect.specs.declared.Effect.{Effect}
+use Rattle.effect.specs.Effect.{changed, maskLength}
+use Rattle.frame.specs.Effect.{effectOf}
+use Rattle.effect.specs.Cut.{cut}
 
 -- by the lengths of the array, the frame and the output
 abbrev pub frameRefusals : State → ℕ → ℕ → ℕ → List (ℕ × Bool)

@@ -1,6 +1,5 @@
 // The calls: run a frame, run an interrupted frame.
-use crate::change;
-use crate::effect;
+use crate::effect_of;
 use state::Answer;
 use state::State;
 ghost use mathlib.Core.Path.{_≡_};
@@ -14,7 +13,7 @@ fn frame_number(s: State, size: usize, count: usize, output: usize) -> u32
     if !state::soundness::is_sound(s) {
         return 1;
     }
-    if size != state::chip::chip_of(s.chip).size as usize {
+    if size != chip::chip_of(s.chip).size as usize {
         return 2;
     }
     if (count == 0) | (4101 < count) {
@@ -36,9 +35,9 @@ pub fn run_frame(s: State, wp: bool, array: &mut [u8], input: &[u8], output: &mu
     }
     let c = command::understand::command_of(s, wp, input);
     // the output shows the array before it changes
-    command::output::emit(s, c, array, output);
-    change::change(array, effect::effect_of(c), input);
-    state::grant(command::registers::state_after(s, c))
+    output::emit(s, c, array, output);
+    effect::change::change(array, effect_of(c), input);
+    state::grant(registers::state_after(s, c))
 }
 
 // Run a frame whose power is cut, with a mask byte for each array byte it programs or erases; then power-up.
@@ -57,11 +56,11 @@ pub fn run_cut_frame(
         return state::refuse(number, s);
     }
     let c = command::understand::command_of(s, wp, input);
-    let e = effect::effect_of(c);
+    let e = effect_of(c);
     if mask.len() != effect::mask_length(e) {
         return state::refuse(5, s);
     }
-    command::output::emit(s, c, array, output);
-    change::cut_change(array, e, input, mask);
-    state::grant(state::power::powered_up(command::registers::state_after(s, c)))
+    output::emit(s, c, array, output);
+    effect::change::cut_change(array, e, input, mask);
+    state::grant(state::power::powered_up(registers::state_after(s, c)))
 }

@@ -1,6 +1,6 @@
 -- The reader's answer as one struct (ours): its kind is 0 refused, 1 frame, 2 wait, 3 end, and what a kind has no use for is 0.
-use Rattle.record.specs.declared.reader.Found.{Found}
-use Rattle.record.specs.declared.reader.Found.the-variants.{Frame, Wait, End, Refused}
+use Rattle.script.specs.declared.reader.Found.{Found}
+use Rattle.script.specs.declared.reader.Found.the-variants.{Frame, Wait, End, Refused}
 use Rattle.host.specs.declared.reader.Record.{Record}
 
 abbrev pub recordOf : Found → Record

@@ -3,7 +3,7 @@ pub mod reader;
 
 use plan::Planned;
 use reader::Record;
-use script::Ran;
+use run::Ran;
 use state::Answer;
 use state::State;
 ghost use mathlib.Core.Path.{_≡_};
@@ -11,8 +11,8 @@ ghost use Rattle.state.specs.Power.{newChip, powerUp};
 ghost use Rattle.state.specs.Time.{passTime};
 ghost use Rattle.frame.specs.Call.{FrameRun, CutRun};
 ghost use Rattle.plan.specs.Update.{PlanUpdated};
-ghost use Rattle.script.specs.Script.{ScriptRun};
-ghost use Rattle.record.specs.Reader.{recordAt};
+ghost use Rattle.run.specs.Script.{ScriptRun};
+ghost use Rattle.script.specs.Reader.{recordAt};
 ghost use Rattle.host.specs.Lent.{lentAnswer};
 ghost use Rattle.host.specs.Read.{recordOf};
 
@@ -101,7 +101,7 @@ pub extern "C" fn zeradok_run(
 ) -> Ran
     ensures { λ r. ⌜ ScriptRun chip «wp_high» (now (array .entry)) (now (script .entry)) (now (output .entry)) r (now (array .exit)) (now (output .exit)) ⌝ }
 {
-    script::run_script(chip, wp_high, array, script, output)
+    run::run_script(chip, wp_high, array, script, output)
 }
 
 // Read the record at an offset of a script.
@@ -109,5 +109,5 @@ pub extern "C" fn zeradok_run(
 pub extern "C" fn zeradok_read(script: &[u8], offset: usize) -> Record
     ensures { λ r. ⌜ r ≡ recordOf (recordAt (now (script .entry)) offset) ⌝ }
 {
-    reader::record_of(record::reader::record_at(script, offset))
+    reader::record_of(script::reader::record_at(script, offset))
 }

@@ -1,5 +1,5 @@
 // The reader's answer as a struct of C.
-use record::reader::Found;
+use script::reader::Found;
 ghost use mathlib.Core.Path.{_≡_};
 ghost use Rattle.host.specs.Read.{recordOf};
 

@@ -1,14 +1,14 @@
 // One line a frame.
 use crate::text::put_hex_line;
-use record::reader::Found;
-use record::reader::record_at;
+use script::reader::Found;
+use script::reader::record_at;
 ghost use mathlib.Core.Path.{_≡_};
 ghost use Prim.Native.Nat.{_*_, _≤_};
 ghost use lib.ListN.{length};
-ghost use Rattle.record.specs.Record.{longestScript};
-ghost use Rattle.record.specs.Survey.{surveyOf};
-ghost use Rattle.script.specs.Script.{recordsOf};
-ghost use Rattle.buffer.specs.Buffer.{Put};
+ghost use Rattle.script.specs.Record.{longestScript};
+ghost use Rattle.script.specs.Survey.{surveyOf};
+ghost use Rattle.run.specs.Script.{recordsOf};
+ghost use Rattle.common.specs.Buffer.{Put};
 ghost use Rattle.listing.specs.Listing.{cutLines};
 
 // The script has been run: its outputs lie one after another.

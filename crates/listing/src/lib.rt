@@ -2,11 +2,11 @@
 mod frames;
 mod text;
 
-use record::reader::LONGEST_SCRIPT;
+use script::reader::LONGEST_SCRIPT;
 ghost use mathlib.Core.Path.{_≡_};
 ghost use Prim.Native.Nat.{_≤_};
 ghost use lib.ListN.{length};
-ghost use Rattle.buffer.specs.Buffer.{Put};
+ghost use Rattle.common.specs.Buffer.{Put};
 ghost use Rattle.listing.specs.Listing.{erased, listing};
 
 // A frame of n bytes takes 4 + n bytes of the script and 2 n + 3 characters; the last line has 5.
@@ -30,10 +30,10 @@ fn output_room() -> [u8; LONGEST_SCRIPT]
 pub fn listing(script: &[u8], text: &mut [u8; LONGEST_LISTING]) -> usize
     ensures { λ r. ⌜ Put 0 (listing (now (script .entry))) (now (text .entry)) (now (text .exit)) r ⌝ }
 {
-    let survey = record::survey::survey_of(script);
+    let survey = script::survey::survey_of(script);
     let mut array = erased_array();
     let mut output = output_room();
-    let ran = script::run_script(
+    let ran = run::run_script(
         state::power::new_chip(5).state,
         true,
         &mut array,

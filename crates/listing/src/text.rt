@@ -1,10 +1,10 @@
 // Lines of text, written into a lent buffer one behind the other.
-use buffer::put;
+use common::buffer::put;
 ghost use mathlib.Core.Path.{_≡_};
 ghost use mathlib.Core.List.{[], _∷_};
 ghost use Prim.Native.Nat.{_+_, _≤_, _<_};
 ghost use lib.ListN.{length};
-ghost use Rattle.buffer.specs.Buffer.{Put};
+ghost use Rattle.common.specs.Buffer.{Put};
 ghost use Rattle.listing.specs.Text.{digit, pair, hex, decimal, line};
 ghost use Rattle.listing.specs.Listing.{refusalLine};
 

@@ -5,8 +5,8 @@ use Prim.Native.Nat.{ℕ, zero, suc, _+_, _-_, _*_, _/_}
 use lib.Dec.{ltb}
 use lib.ListN.{length}
 use Rattle.common.specs.Lists.{tab}
-use Rattle.record.specs.Record.{Record, frame, wait}
-use Rattle.steps.specs.Region.{addressBytes, wantedAt, changes}
+use Rattle.script.specs.Record.{Record, frame, wait}
+use Rattle.region.specs.Region.{addressBytes, wantedAt, changes}
 
 -- of n addresses from a on: how many come before the first that changes
 unfoldable pub beforeFirst : (ℕ → Bool) → ℕ → ℕ → ℕ

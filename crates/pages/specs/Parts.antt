@@ -5,7 +5,7 @@ use mathlib.Core.List.{List}
 use Prim.Native.Nat.{ℕ, zero, suc, _+_, _-_, _≤_, _<_}
 use lib.Dec.{ltb}
 use lib.ListN.{length}
-use Rattle.state.specs.Status.{bit}
+use Rattle.common.specs.Bits.{bit}
 use Rattle.pages.specs.declared.Part.{Part}
 use Rattle.pages.specs.Pages.{beforeFirst, partLength}
 

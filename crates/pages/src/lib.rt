@@ -1,12 +1,12 @@
 // Step 3: of each page that changes, the bytes from the first changing one to the last.
-use steps::measure::Measure;
+use script::measure::Measure;
 ghost use mathlib.Core.Path.{_≡_};
 ghost use Prim.Native.Nat.{_+_, _-_, _≤_, min, max};
 ghost use lib.ListN.{length};
-ghost use Rattle.record.specs.Record.{encode};
-ghost use Rattle.steps.specs.Region.{Inside, wantedAt, changes};
-ghost use Rattle.steps.specs.Measure.{measureOf};
-ghost use Rattle.buffer.specs.Buffer.{Put};
+ghost use Rattle.script.specs.Record.{encode};
+ghost use Rattle.region.specs.Region.{Inside, wantedAt, changes};
+ghost use Rattle.script.specs.Measure.{measureOf};
+ghost use Rattle.common.specs.Buffer.{Put};
 ghost use Rattle.pages.specs.Pages.{partRecords, stepThree};
 ghost use Rattle.pages.specs.Parts.{First, Behind, PagePart, PartIn};
 
@@ -36,7 +36,7 @@ fn first_changing(array: &[u8], start: usize, wanted: &[u8], from: usize, to: us
 {
     let mut address = from;
     while address < to {
-        if steps::region::changes(array, start, wanted, address) {
+        if region::changes(array, start, wanted, address) {
             return address;
         }
         address += 1;
@@ -52,7 +52,7 @@ fn behind_last(array: &[u8], start: usize, wanted: &[u8], from: usize, to: usize
 {
     let mut address = to;
     while from < address {
-        if steps::region::changes(array, start, wanted, address - 1) {
+        if region::changes(array, start, wanted, address - 1) {
             return address;
         }
         address -= 1;
@@ -114,11 +114,11 @@ fn put_part(start: usize, wanted: &[u8], part: Part, buffer: &mut [u8], at: usiz
     let low = (from % 256) as u8;
     let first = from - start;
     let behind = to - start;
-    let enabled = steps::writer::put_frame(&[0x06], buffer, at);
-    let headed = steps::writer::put_head(4 + (to - from), buffer, enabled);
-    let addressed = buffer::put(&[0x02, high, middle, low], buffer, headed);
-    let sent = buffer::put(&wanted[first..behind], buffer, addressed);
-    steps::writer::put_wait(1500, buffer, sent)
+    let enabled = script::writer::put_frame(&[0x06], buffer, at);
+    let headed = script::writer::put_head(4 + (to - from), buffer, enabled);
+    let addressed = common::buffer::put(&[0x02, high, middle, low], buffer, headed);
+    let sent = common::buffer::put(&wanted[first..behind], buffer, addressed);
+    script::writer::put_wait(1500, buffer, sent)
 }
 
 // The whole of step 3.

@@ -4,13 +4,13 @@ use mathlib.Core.List.{List, [], _∷_, _++_}
 use Prim.Native.Nat.{ℕ, _+_, _*_}
 use lib.Dec.{leb}
 use lib.ListN.{length}
-use Rattle.record.specs.Record.{Record, frame}
+use Rattle.script.specs.Record.{Record, frame}
 use Rattle.state.specs.declared.State.{State}
 use Rattle.state.specs.State.{dataOf}
 use Rattle.state.specs.Protection.{firstProtected}
-use Rattle.state.specs.Status.{bit}
-use Rattle.steps.specs.declared.measure.Measure.{Measure}
-use Rattle.steps.specs.Region.{changes, anyOf}
+use Rattle.common.specs.Bits.{bit}
+use Rattle.script.specs.declared.measure.Measure.{Measure}
+use Rattle.region.specs.Region.{changes, anyOf}
 use Rattle.words.specs.Words.{stepTwo}
 use Rattle.pages.specs.Pages.{stepThree}
 

@@ -6,11 +6,11 @@ use Prim.Native.Nat.{ℕ, _+_, _≤_}
 use lib.Dec.{ltb, eqb}
 use lib.ListN.{length}
 use Rattle.common.specs.Refusals.{firstOf}
-use Rattle.record.specs.Record.{encode}
+use Rattle.script.specs.Record.{encode}
 use Rattle.state.specs.declared.State.{State}
 use Rattle.state.specs.State.{dataOf}
 use Rattle.state.specs.Soundness.{isSound, isBusy}
-use Rattle.steps.specs.Region.{anyOf, rises}
+use Rattle.region.specs.Region.{anyOf, rises}
 use Rattle.plan.specs.Plan.{stepOneNeeded, planRecords}
 
 -- "up to 4,096 wanted bytes"

@@ -5,7 +5,7 @@ use mathlib.Core.List.{List, [], _++_}
 use Prim.Native.Nat.{ℕ}
 use lib.ListN.{length, drop}
 use Rattle.common.specs.Refusals.{accepted}
-use Rattle.record.specs.Record.{Record, encode, framesIn, microsecondsIn}
+use Rattle.script.specs.Record.{Record, encode, framesIn, microsecondsIn}
 use Rattle.state.specs.declared.State.{State}
 use Rattle.plan.specs.declared.Planned.{Planned}
 use Rattle.plan.specs.Plan.{planRecords}

@@ -1,18 +1,18 @@
 // The planner: from the bytes wanted in a region of the array to the script that programs them.
 pub mod status; // steps 1 and 4
 
+use script::measure::Measure;
 use state::State;
-use steps::measure::Measure;
 ghost use mathlib.Core.Path.{_≡_};
 ghost use mathlib.Core.Bool.{_||_};
 ghost use Prim.Native.Nat.{_+_, _≤_};
 ghost use lib.Dec.{ltb};
 ghost use lib.ListN.{length};
 ghost use Rattle.common.specs.Refusals.{firstOf};
-ghost use Rattle.record.specs.Record.{encode};
-ghost use Rattle.steps.specs.Region.{Inside};
-ghost use Rattle.steps.specs.Measure.{measureOf};
-ghost use Rattle.buffer.specs.Buffer.{Put};
+ghost use Rattle.script.specs.Record.{encode};
+ghost use Rattle.region.specs.Region.{Inside};
+ghost use Rattle.script.specs.Measure.{measureOf};
+ghost use Rattle.common.specs.Buffer.{Put};
 ghost use Rattle.plan.specs.Plan.{stepOneNeeded, programStep, planRecords};
 ghost use Rattle.plan.specs.Refusals.{longestWanted, regionRefusals};
 ghost use Rattle.plan.specs.Update.{refusedPlan, PlanUpdated};
@@ -53,7 +53,7 @@ fn region_exceeds(size: usize, start: usize, n: usize) -> bool
 fn region_refusal(s: State, array: &[u8], start: usize, wanted: &[u8]) -> u32
     ensures { λ r. ⌜ r ≡ firstOf (regionRefusals s (now (array .entry)) start (now (wanted .entry))) ⌝ }
 {
-    let size = state::chip::chip_of(s.chip).size as usize;
+    let size = chip::chip_of(s.chip).size as usize;
     if !state::soundness::is_sound(s) {
         return 1;
     }
@@ -66,7 +66,7 @@ fn region_refusal(s: State, array: &[u8], start: usize, wanted: &[u8]) -> u32
     if (0 < s.left) | s.aai | s.down {
         return 7;
     }
-    if steps::region::wants_rise(array, start, wanted) {
+    if region::wants_rise(array, start, wanted) {
         return 8;
     }
     0
@@ -90,7 +90,7 @@ fn measure_plan(s: State, needed: bool, array: &[u8], start: usize, wanted: &[u8
     requires { ⌜ needed ≡ stepOneNeeded s (now array) start (now wanted) ⌝ }
     ensures { λ r. ⌜ r ≡ measureOf (planRecords s (now (array .entry)) start (now (wanted .entry))) ⌝ }
 {
-    let words = state::chip::chip_of(s.chip).words;
+    let words = chip::chip_of(s.chip).words;
     status::with_status(needed, measure_program(words, array, start, wanted))
 }
 
@@ -129,7 +129,7 @@ fn put_plan(
     requires { ⌜ length (encode (planRecords s (now array) start (now wanted))) ≤ length (now buffer) ⌝ }
     ensures { λ r. ⌜ Put 0 (encode (planRecords s (now (array .entry)) start (now (wanted .entry)))) (now (buffer .entry)) (now (buffer .exit)) r ⌝ }
 {
-    let words = state::chip::chip_of(s.chip).words;
+    let words = chip::chip_of(s.chip).words;
     let unprotected = status::put_status(needed, s, 0, buffer, 0);
     let programmed = put_program(words, array, start, wanted, buffer, unprotected);
     status::put_status(needed, s, s.bp, buffer, programmed)

@@ -1,14 +1,14 @@
 // Steps 1 and 4: the protection bits taken away and put back, by two frames each.
+use script::measure::Measure;
 use state::State;
-use steps::measure::Measure;
 ghost use mathlib.Core.Path.{_≡_};
 ghost use mathlib.Core.Bool.{cond};
 ghost use Prim.Native.Nat.{_+_, _≤_};
 ghost use lib.ListN.{length};
-ghost use Rattle.record.specs.Record.{encode};
+ghost use Rattle.script.specs.Record.{encode};
 ghost use Rattle.state.specs.State.{dataOf};
-ghost use Rattle.steps.specs.Region.{Inside};
-ghost use Rattle.buffer.specs.Buffer.{Put};
+ghost use Rattle.region.specs.Region.{Inside};
+ghost use Rattle.common.specs.Buffer.{Put};
 ghost use Rattle.plan.specs.Plan.{stepOneNeeded, statusByte, statusStep, withStatus};
 
 // Whether a byte that changes is protected.
@@ -31,7 +31,7 @@ pub fn step_one_needed(s: State, array: &[u8], start: usize, wanted: &[u8]) -> b
 fn arming(s: State) -> u8
     ensures { λ r. ⌜ r ≡ cond (dataOf s .ewsr) 0x50 0x06 ⌝ }
 {
-    if state::chip::chip_of(s.chip).ewsr {
+    if chip::chip_of(s.chip).ewsr {
         0x50
     } else {
         0x06
@@ -53,8 +53,8 @@ pub fn put_status(needed: bool, s: State, bp: u8, buffer: &mut [u8], at: usize) 
     if !needed {
         return at;
     }
-    let armed = steps::writer::put_frame(&[arming(s)], buffer, at);
-    steps::writer::put_frame(&[0x01, status_byte(bp, s.tb, s.bpl)], buffer, armed)
+    let armed = script::writer::put_frame(&[arming(s)], buffer, at);
+    script::writer::put_frame(&[0x01, status_byte(bp, s.tb, s.bpl)], buffer, armed)
 }
 
 // With steps 1 and 4 around it: two frames each, of one and two bytes.

@@ -2,7 +2,7 @@
 use libc::STDIN_FILENO;
 use libc::STDOUT_FILENO;
 use listing::LONGEST_LISTING;
-use record::reader::LONGEST_SCRIPT;
+use script::reader::LONGEST_SCRIPT;
 ghost use mathlib.Core.Path.{_≡_};
 ghost use lib.ListN.{length};
 

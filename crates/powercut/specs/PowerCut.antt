@@ -9,14 +9,14 @@ use Rattle.common.specs.Lists.{mapi}
 use Rattle.state.specs.declared.State.{State}
 use Rattle.state.specs.State.{withWel, withArmed}
 use Rattle.state.specs.Power.{powerUp}
-use Rattle.record.specs.Record.{Record, frame, AllBytes, encode}
-use Rattle.frame.specs.Effect.{maskLength}
+use Rattle.script.specs.Record.{Record, frame, AllBytes, encode}
+use Rattle.effect.specs.Effect.{maskLength}
 use Rattle.frame.specs.Call.{effectAt, frameNumber, cutAnswer, cutArray}
 use Rattle.common.specs.Bits.{bitAt}
-use Rattle.script.specs.declared.Ran.{Ran}
-use Rattle.script.specs.Run.{Device, device, run}
-use Rattle.script.specs.Script.{recordsOf}
-use Rattle.steps.specs.Region.{within}
+use Rattle.run.specs.declared.Ran.{Ran}
+use Rattle.run.specs.Run.{Device, device, run}
+use Rattle.run.specs.Script.{recordsOf}
+use Rattle.region.specs.Region.{within}
 use Rattle.plan.specs.declared.Planned.{Planned}
 use Rattle.plan.specs.Plan.{planRecords}
 use Rattle.plan.specs.Refusals.{planRefusal}

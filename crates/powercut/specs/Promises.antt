@@ -10,8 +10,8 @@ use lib.ListN.{length, getD}
 use Rattle.state.specs.declared.State.{State}
 use Rattle.state.specs.State.{withWel, withArmed}
 use Rattle.common.specs.Bits.{bitAt}
-use Rattle.script.specs.Run.{Device}
-use Rattle.steps.specs.Region.{within}
+use Rattle.run.specs.Run.{Device}
+use Rattle.region.specs.Region.{within}
 use Rattle.plan.specs.Refusals.{planRefusal}
 use Rattle.powercut.specs.PowerCut.{updated, Finished, PowerLost}
 

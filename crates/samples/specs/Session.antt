@@ -10,7 +10,7 @@ use Rattle.state.specs.State.{dataOf}
 use Rattle.state.specs.Protection.{firstProtected}
 use Rattle.state.specs.Time.{passTime}
 use Rattle.frame.specs.Call.{frameAnswer, frameArray, frameOutput}
-use Rattle.record.specs.Record.{encode, framesIn, microsecondsIn}
+use Rattle.script.specs.Record.{encode, framesIn, microsecondsIn}
 use Rattle.plan.specs.Refusals.{planRefusal}
 use Rattle.plan.specs.Update.{givenRecords}
 

@@ -1,5 +1,8 @@
-pub mod Chip
-pub mod Run
-pub mod Accepted
-pub mod Script
-pub mod Walk
+pub mod Records
+pub mod Front
+pub mod Places
+pub mod Decode
+pub mod Reader
+pub mod Answers
+pub mod Survey
+pub mod Writer

@@ -1,2 +1,6 @@
-pub mod Run
-pub mod Script
+pub mod Record
+pub mod Measure
+pub mod Head
+pub mod Decode
+pub mod Reader
+pub mod Survey

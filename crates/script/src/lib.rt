@@ -1,64 +1,6 @@
-// Scripts run on a chip (01, "Scripts and plans").
-mod run;
+// Scripts as bytes (01, "Scripts and plans"): what one record says, what a whole script counts, and records written. Nothing here knows a chip.
 
-use record::survey::Survey;
-use state::State;
-ghost use mathlib.Core.Path.{_≡_};
-ghost use Rattle.script.specs.Script.{surveyedNumber, refusedRun, ScriptRun};
-
-// What running a script answers: number 0 with the chip's state and the counts, or the refusal's number with the given state.
-#[repr(C)]
-pub struct Ran {
-    pub number: u32,
-    pub state: State,
-    pub frames: u32,
-    pub microseconds: u64,
-}
-
-// By the array's length, the script's survey and the output's length.
-fn script_number(s: State, size: usize, survey: Survey, output: usize) -> u32
-    ensures { λ r. ⌜ r ≡ surveyedNumber s size survey output ⌝ }
-{
-    if !state::soundness::is_sound(s) {
-        return 1;
-    }
-    if size != state::chip::chip_of(s.chip).size as usize {
-        return 2;
-    }
-    if survey.number != 0 {
-        return survey.number;
-    }
-    if output != survey.output {
-        return 4;
-    }
-    0
-}
-
-fn refused_run(number: u32, state: State) -> Ran
-    ensures { λ r. ⌜ r ≡ refusedRun number state ⌝ }
-{
-    Ran {
-        number,
-        state,
-        frames: 0,
-        microseconds: 0,
-    }
-}
-
-// Run a script, with one WP level for all its frames. Every record is checked before the first is run.
-pub fn run_script(s: State, wp: bool, array: &mut [u8], script: &[u8], output: &mut [u8]) -> Ran
-    ensures { λ r. ⌜ ScriptRun s wp (now (array .entry)) (now (script .entry)) (now (output .entry)) r (now (array .exit)) (now (output .exit)) ⌝ }
-{
-    let survey = record::survey::survey_of(script);
-    let number = script_number(s, array.len(), survey, output.len());
-    if number != 0 {
-        return refused_run(number, s);
-    }
-    let state = run::run_records(s, wp, array, script, output);
-    Ran {
-        number: 0,
-        state,
-        frames: survey.frames,
-        microseconds: survey.microseconds,
-    }
-}
+pub mod measure; // what a script amounts to
+pub mod reader; // one record at an offset, and its frame as a part of the script
+pub mod survey; // a whole script, checked and counted
+pub mod writer; // records laid into a lent buffer

@@ -1,5 +1,4 @@
 pub mod Answer
-pub mod Chip
 pub mod Protection
 pub mod Soundness
 pub mod Power

@@ -1,4 +1,3 @@
-pub mod Chip
 pub mod State
 pub mod Answer
 pub mod Protection

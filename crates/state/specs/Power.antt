@@ -5,7 +5,7 @@ use Prim.Native.Nat.{ℕ}
 use Rattle.common.specs.Refusals.{firstOf}
 use Rattle.state.specs.declared.State.{State}
 use Rattle.state.specs.declared.Answer.{Answer}
-use Rattle.state.specs.Chip.{chipOf, isKnown}
+use Rattle.chip.specs.Chip.{chipOf, isKnown}
 use Rattle.state.specs.State.{dataOf}
 use Rattle.state.specs.Answer.{granted, refused, answered}
 use Rattle.state.specs.Soundness.{isSound}

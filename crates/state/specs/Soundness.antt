@@ -5,7 +5,7 @@ use mathlib.Core.List.{List, [], _∷_}
 use Prim.Native.Nat.{ℕ, _%_, _≤_, _<_}
 use lib.Dec.{leb, ltb, eqb}
 use Rattle.state.specs.declared.State.{State}
-use Rattle.state.specs.Chip.{isKnown}
+use Rattle.chip.specs.Chip.{isKnown}
 use Rattle.state.specs.State.{dataOf}
 use Rattle.state.specs.Protection.{firstProtected}
 

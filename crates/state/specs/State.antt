@@ -2,8 +2,8 @@
 use mathlib.Core.Bool.{Bool}
 use Prim.Native.Nat.{ℕ}
 use Rattle.state.specs.declared.State.{State}
-use Rattle.state.specs.declared.chip.Chip.{Chip}
-use Rattle.state.specs.Chip.{chipOf}
+use Rattle.chip.specs.declared.Chip.{Chip}
+use Rattle.chip.specs.Chip.{chipOf}
 
 -- the data of a state's chip
 abbrev pub dataOf : State → Chip

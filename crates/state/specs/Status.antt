@@ -1,12 +1,10 @@
 -- The status register as a byte (000, Table 4; 004, Table 2).
-use mathlib.Core.Bool.{Bool, _&&_, cond}
+use mathlib.Core.Bool.{_&&_}
 use Prim.Native.Nat.{ℕ, _+_, _*_, _%_}
 use lib.Dec.{ltb}
 use Rattle.state.specs.declared.State.{State}
+use Rattle.common.specs.Bits.{bit}
 use Rattle.state.specs.State.{dataOf}
-
-abbrev pub bit : Bool → ℕ → ℕ
-bit set value = cond set value 0
 
 -- "0 BUSY, 1 WEL, 2 to 4 BP0 to BP2, 7 BPL. Bit 6 is AAI on the 008A, 0 on the 05PA. Bit 5 is TB on the 05PA, 0 on the 008A."
 unfoldable pub statusOf : State → ℕ

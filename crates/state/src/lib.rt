@@ -1,5 +1,4 @@
 // The chip while nothing is sent: its state, soundness, protection, power and time.
-pub mod chip;
 pub mod power;
 pub mod protection;
 pub mod soundness;

@@ -26,14 +26,14 @@ fn at_rest(chip: u8, bp: u8, tb: bool, bpl: bool) -> State
 fn new_state(chip: u8) -> State
     ensures { λ r. ⌜ r ≡ newState chip ⌝ }
 {
-    at_rest(chip, crate::chip::chip_of(chip).newlevel, false, false)
+    at_rest(chip, chip::chip_of(chip).newlevel, false, false)
 }
 
 // Make a new chip. Of an unknown number there is none: refusal 1 comes with a new F25L05PA.
 pub fn new_chip(number: u8) -> Answer
     ensures { λ r. ⌜ r ≡ newChip number ⌝ }
 {
-    if crate::chip::is_known(number) {
+    if chip::is_known(number) {
         crate::grant(new_state(number))
     } else {
         crate::refuse(1, new_state(5))
@@ -44,7 +44,7 @@ pub fn new_chip(number: u8) -> Answer
 pub fn powered_up(s: State) -> State
     ensures { λ r. ⌜ r ≡ poweredUp s ⌝ }
 {
-    if crate::chip::chip_of(s.chip).keeps {
+    if chip::chip_of(s.chip).keeps {
         at_rest(s.chip, s.bp, s.tb, s.bpl)
     } else {
         new_state(s.chip)

@@ -29,7 +29,7 @@ fn first_by_level(level: u8) -> u32
 pub fn first_protected(s: State) -> u32
     ensures { λ r. ⌜ r ≡ firstProtected s ⌝ }
 {
-    let chip = crate::chip::chip_of(s.chip);
+    let chip = chip::chip_of(s.chip);
     if chip.graded {
         return first_by_level(s.bp);
     }

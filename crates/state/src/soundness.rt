@@ -6,9 +6,9 @@ ghost use Rattle.state.specs.Soundness.{allOf, registerClauses, aaiClaus
 fn registers_sound(s: State) -> bool
     ensures { λ r. ⌜ r ≡ allOf (registerClauses s) ⌝ }
 {
-    let chip = crate::chip::chip_of(s.chip);
+    let chip = chip::chip_of(s.chip);
     let busy = 0 < s.left;
-    crate::chip::is_known(s.chip)
+    chip::is_known(s.chip)
         & (s.bp <= 7)
         & (s.left <= chip.chiptime)
         & (!busy | s.wel)

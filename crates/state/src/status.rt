@@ -2,7 +2,8 @@
 use crate::State;
 ghost use mathlib.Core.Path.{_≡_};
 ghost use Prim.Native.Nat.{_≤_};
-ghost use Rattle.state.specs.Status.{bit, statusOf};
+ghost use Rattle.state.specs.Status.{statusOf};
+ghost use Rattle.common.specs.Bits.{bit};
 
 fn bit_of(set: bool, value: u8) -> u8
     ensures { λ r. ⌜ (r ≡ bit set value) × (r ≤ value) ⌝ }
@@ -13,7 +14,7 @@ fn bit_of(set: bool, value: u8) -> u8
 pub fn status_of(s: State) -> u8
     ensures { λ r. ⌜ r ≡ statusOf s ⌝ }
 {
-    let chip = crate::chip::chip_of(s.chip);
+    let chip = chip::chip_of(s.chip);
     bit_of(0 < s.left, 1)
         + bit_of(s.wel, 2)
         + s.bp % 8 * 4

@@ -2,9 +2,9 @@
 use mathlib.Core.Bool.{Bool, true, false, not, _&&_}
 use mathlib.Core.List.{List, [], _∷_, _++_}
 use Prim.Native.Nat.{ℕ, zero, suc, _+_}
-use Rattle.record.specs.Record.{Record, frame, wait}
-use Rattle.state.specs.Status.{bit}
-use Rattle.steps.specs.Region.{addressBytes}
+use Rattle.script.specs.Record.{Record, frame, wait}
+use Rattle.common.specs.Bits.{bit}
+use Rattle.region.specs.Region.{addressBytes}
 use Rattle.words.specs.Words.{wordBytes, wordChanges}
 
 -- what a word adds: by whether a run goes on, and whether the word changes

@@ -4,8 +4,8 @@ use mathlib.Core.List.{List, [], _∷_, _++_}
 use Prim.Native.Nat.{ℕ, zero, suc, _+_, _-_, _*_, _/_}
 use lib.Dec.{eqb}
 use lib.ListN.{length}
-use Rattle.record.specs.Record.{Record, frame, wait}
-use Rattle.steps.specs.Region.{addressBytes, wantedAt, changes}
+use Rattle.script.specs.Record.{Record, frame, wait}
+use Rattle.region.specs.Region.{addressBytes, wantedAt, changes}
 
 -- the word at an even address, and whether it holds a changing byte
 abbrev pub wordBytes : (ℕ → ℕ) → ℕ → List ℕ

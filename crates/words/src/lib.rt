@@ -1,13 +1,13 @@
 // Step 2: the words that change, in runs of neighbours.
-use steps::measure::Measure;
+use script::measure::Measure;
 ghost use mathlib.Core.Path.{_≡_};
 ghost use mathlib.Core.Bool.{true, false};
 ghost use Prim.Native.Nat.{_+_, _≤_, _<_};
 ghost use lib.ListN.{length};
-ghost use Rattle.record.specs.Record.{encode};
-ghost use Rattle.steps.specs.Region.{Inside, wantedAt, changes};
-ghost use Rattle.steps.specs.Measure.{measureOf};
-ghost use Rattle.buffer.specs.Buffer.{Put};
+ghost use Rattle.script.specs.Record.{encode};
+ghost use Rattle.region.specs.Region.{Inside, wantedAt, changes};
+ghost use Rattle.script.specs.Measure.{measureOf};
+ghost use Rattle.common.specs.Buffer.{Put};
 ghost use Rattle.words.specs.Words.{wordChanges, stepTwo};
 ghost use Rattle.words.specs.Walk.{wordRecords};
 
@@ -17,8 +17,8 @@ fn word_changes(array: &[u8], start: usize, wanted: &[u8], address: usize) -> bo
     requires { ⌜ address < length (now array) ⌝ }
     ensures { λ r. ⌜ r ≡ wordChanges (changes (now (array .entry)) start (now (wanted .entry))) address ⌝ }
 {
-    steps::region::changes(array, start, wanted, address)
-        | steps::region::changes(array, start, wanted, address + 1)
+    region::changes(array, start, wanted, address)
+        | region::changes(array, start, wanted, address + 1)
 }
 
 // A run of w words has w + 2 frames, w waits of 7, and 13 (w + 1) bytes.
@@ -54,11 +54,11 @@ fn put_first(start: usize, wanted: &[u8], address: usize, buffer: &mut [u8], at:
     let high = (address / 65536 % 256) as u8;
     let middle = (address / 256 % 256) as u8;
     let low = (address % 256) as u8;
-    let even = steps::region::wanted_at(start, wanted, address);
-    let odd = steps::region::wanted_at(start, wanted, address + 1);
-    let enabled = steps::writer::put_frame(&[0x06], buffer, at);
-    let sent = steps::writer::put_frame(&[0xad, high, middle, low, even, odd], buffer, enabled);
-    steps::writer::put_wait(7, buffer, sent)
+    let even = region::wanted_at(start, wanted, address);
+    let odd = region::wanted_at(start, wanted, address + 1);
+    let enabled = script::writer::put_frame(&[0x06], buffer, at);
+    let sent = script::writer::put_frame(&[0xad, high, middle, low, even, odd], buffer, enabled);
+    script::writer::put_wait(7, buffer, sent)
 }
 
 // A further word: AD with the word, wait 7.
@@ -67,10 +67,10 @@ fn put_further(start: usize, wanted: &[u8], address: usize, buffer: &mut [u8], a
     requires { ⌜ at + length (encode (wordRecords (wantedAt start (now wanted)) true true address)) ≤ length (now buffer) ⌝ }
     ensures { λ r. ⌜ Put at (encode (wordRecords (wantedAt start (now (wanted .entry))) true true address)) (now (buffer .entry)) (now (buffer .exit)) r ⌝ }
 {
-    let even = steps::region::wanted_at(start, wanted, address);
-    let odd = steps::region::wanted_at(start, wanted, address + 1);
-    let sent = steps::writer::put_frame(&[0xad, even, odd], buffer, at);
-    steps::writer::put_wait(7, buffer, sent)
+    let even = region::wanted_at(start, wanted, address);
+    let odd = region::wanted_at(start, wanted, address + 1);
+    let sent = script::writer::put_frame(&[0xad, even, odd], buffer, at);
+    script::writer::put_wait(7, buffer, sent)
 }
 
 // What a word adds to the script, by whether a run goes on and whether the word changes.
@@ -94,7 +94,7 @@ fn put_word(
             put_first(start, wanted, address, buffer, at)
         }
     } else if running {
-        steps::writer::put_frame(&[0x04], buffer, at)
+        script::writer::put_frame(&[0x04], buffer, at)
     } else {
         at
     }

@@ -11,7 +11,7 @@ use borrow.Author.Tests.{leb-true, eqb-true}
 use Rattle.common.proofs.Laws.Choice.{cond-elim}
 use Rattle.common.proofs.Laws.Pairs.{_▹_}
 use Rattle.state.specs.declared.State.{State}
-use Rattle.opcode.specs.Instructions.{kindOf}
+use Rattle.chip.specs.Instructions.{kindOf}
 use Rattle.command.specs.declared.Command.{Command}
 use Rattle.command.specs.declared.Command.the-variants.{
   Ignored,

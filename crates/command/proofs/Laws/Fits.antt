@@ -13,15 +13,15 @@ use Rattle.common.proofs.Laws.Choice.{cond-elim, cases}
 use Rattle.common.proofs.Laws.Booleans.{and-l, and-r, implies-elim}
 use Rattle.common.proofs.Laws.Pairs.{_▹_}
 use Rattle.state.specs.declared.State.{State}
-use Rattle.state.specs.declared.chip.Chip.{Chip}
-use Rattle.state.specs.Chip.{f25l008a, f25l05pa, chipOf}
+use Rattle.chip.specs.declared.Chip.{Chip}
+use Rattle.chip.specs.Chip.{f25l008a, f25l05pa, chipOf}
 use Rattle.state.specs.State.{dataOf}
 use Rattle.state.specs.Protection.{firstProtected}
 use Rattle.state.specs.Soundness.{Sound, implies}
-use Rattle.state.proofs.Laws.Chip.{regular}
+use Rattle.chip.proofs.Laws.Chip.{regular}
 use Rattle.state.proofs.Laws.Protection.{first-le}
-use Rattle.opcode.specs.Kinds.{unknown, aaiProgram, ewsr, deepPowerDown}
-use Rattle.opcode.specs.Instructions.{instructions008A, instructions05PA, instructionsOf, kindIn, kindOf}
+use Rattle.chip.specs.Kinds.{unknown, aaiProgram, ewsr, deepPowerDown}
+use Rattle.chip.specs.Instructions.{instructions008A, instructions05PA, instructionsOf, kindIn, kindOf}
 use Rattle.command.specs.declared.Command.{Command}
 use Rattle.command.specs.declared.Command.the-variants.{
   Ignored,

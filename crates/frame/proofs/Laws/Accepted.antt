@@ -18,7 +18,7 @@ use Rattle.state.specs.declared.State.{State}
 use Rattle.state.specs.State.{dataOf}
 use Rattle.state.specs.Soundness.{isSound, Sound}
 use Rattle.state.proofs.Laws.Soundness.{sound-of, of-sound}
-use Rattle.frame.specs.Effect.{maskLength}
+use Rattle.effect.specs.Effect.{maskLength}
 use Rattle.frame.specs.Call.{frameRefusals, frameNumber, effectAt, cutNumber}
 
 -- by the lengths of the array, the frame and the output

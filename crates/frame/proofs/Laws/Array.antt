@@ -18,16 +18,16 @@ use Rattle.state.specs.declared.State.{State}
 use Rattle.state.specs.Protection.{firstProtected}
 use Rattle.command.specs.Command.{commandOf}
 use Rattle.command.proofs.Laws.Fits.{fits}
-use Rattle.frame.specs.declared.effect.Effect.{Effect}
-use Rattle.frame.specs.declared.effect.Effect.the-variants.{Keep, Fill, Program, Round}
-use Rattle.frame.specs.Effect.{touches, struck, changed, maskLength}
-use Rattle.frame.specs.Cut.{mixed, cut}
+use Rattle.effect.specs.declared.Effect.{Effect}
+use Rattle.effect.specs.declared.Effect.the-variants.{Keep, Fill, Program, Round}
+use Rattle.effect.specs.Effect.{touches, struck, changed, maskLength}
+use Rattle.effect.specs.Cut.{mixed, cut}
 use Rattle.frame.specs.Call.{frameNumber, effectAt, frameArray, cutNumber, cutArray}
 use Rattle.frame.proofs.Laws.Accepted.{Accepted, number-accepted, accepted-number, cut-number-accepted, cut-number-whole}
 use Rattle.common.specs.Bits.{Bytes, bitAt}
 use Rattle.common.proofs.Laws.Bits.{NoRise, no-rise-refl, no-rise-and, no-rise-part, no-rise-or}
-use Rattle.frame.proofs.Laws.Cut.{changed-lt, cut-lt, cut-between, ones, zeros, cut-all, cut-none}
-use Rattle.frame.proofs.Laws.Effect.{changed-other, changed-above, cut-other, cut-above}
+use Rattle.effect.proofs.Laws.Cut.{changed-lt, cut-lt, cut-between, ones, zeros, cut-all, cut-none}
+use Rattle.effect.proofs.Laws.Effect.{changed-other, changed-above, cut-other, cut-above}
 use Rattle.frame.proofs.Laws.Inside.{effect-free}
 
 -- ---- programming one byte

@@ -11,8 +11,8 @@ use Rattle.common.proofs.Laws.Choice.{yes, no}
 use Rattle.state.specs.declared.State.{State}
 use Rattle.state.specs.Answer.{granted, refused}
 use Rattle.state.specs.Power.{poweredUp}
-use Rattle.frame.specs.Effect.{changed}
-use Rattle.frame.specs.Cut.{cut}
+use Rattle.effect.specs.Effect.{changed}
+use Rattle.effect.specs.Cut.{cut}
 use Rattle.frame.specs.Call.{frameNumber, effectAt, stateAt, shown, frameAnswer, frameArray, frameOutput, FrameRun, cutNumber, cutAnswer, cutArray, cutOutput, CutRun}
 
 module _ (s : State) (wp : Bool) (array f output : List ℕ) where

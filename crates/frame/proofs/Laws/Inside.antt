@@ -29,10 +29,11 @@ use Rattle.command.specs.declared.Command.the-variants.{
   Sleep,
 }
 use Rattle.command.specs.Fits.{Fits}
-use Rattle.frame.specs.declared.effect.Span.{Span}
-use Rattle.frame.specs.declared.effect.Effect.{Effect}
-use Rattle.frame.specs.declared.effect.Effect.the-variants.{Keep, Fill, Program, Round}
-use Rattle.frame.specs.Effect.{pageEffect, effectOf, spanOf}
+use Rattle.effect.specs.declared.Span.{Span}
+use Rattle.effect.specs.declared.Effect.{Effect}
+use Rattle.effect.specs.declared.Effect.the-variants.{Keep, Fill, Program, Round}
+use Rattle.effect.specs.Effect.{pageEffect, spanOf}
+use Rattle.frame.specs.Effect.{effectOf}
 
 pub record Inside (p : Span) (size : ℕ) : Type 0 where
   pub order : p .lo ≤ p .hi

@@ -14,7 +14,7 @@ use Rattle.state.specs.Power.{poweredUp}
 use Rattle.state.specs.Soundness.{isSound, Sound}
 use Rattle.state.proofs.Laws.Power.{powered-up-sound}
 use Rattle.state.proofs.Laws.Soundness.{sound-of, of-sound}
-use Rattle.command.proofs.Laws.Kept.{command-sound}
+use Rattle.registers.proofs.Laws.Kept.{command-sound}
 use Rattle.frame.specs.Call.{frameNumber, stateAt, frameAnswer, cutNumber, cutAnswer}
 
 -- whatever the number is

@@ -25,8 +25,9 @@ use Rattle.command.specs.declared.Command.the-variants.{
   Sleep,
 }
 use Rattle.command.specs.Fits.{Carries}
-use Rattle.frame.specs.declared.effect.Effect.{Effect}
-use Rattle.frame.specs.Effect.{pageEffect, effectOf, Supplied}
+use Rattle.effect.specs.declared.Effect.{Effect}
+use Rattle.effect.specs.Effect.{pageEffect, Supplied}
+use Rattle.frame.specs.Effect.{effectOf}
 
 pub effect-supplied : (f : List ℕ) (c : Command) → Carries f c → Supplied (effectOf c) f
 unfolding pageEffect

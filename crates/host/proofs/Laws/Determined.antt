@@ -9,12 +9,12 @@ use Rattle.state.specs.declared.Answer.{Answer}
 use Rattle.state.specs.Power.{newChip, powerUp}
 use Rattle.state.specs.Time.{passTime}
 use Rattle.state.proofs.Laws.Determined.{new-chip-determined, power-up-determined, pass-time-determined}
-use Rattle.record.specs.Reader.{recordAt}
+use Rattle.script.specs.Reader.{recordAt}
 use Rattle.frame.specs.Call.{FrameRun, CutRun}
 use Rattle.frame.proofs.Laws.Determined.{run-frame-determined, run-cut-frame-determined}
-use Rattle.script.specs.declared.Ran.{Ran}
-use Rattle.script.specs.Script.{ScriptRun}
-use Rattle.script.proofs.Laws.Script.{run-script-determined}
+use Rattle.run.specs.declared.Ran.{Ran}
+use Rattle.run.specs.Script.{ScriptRun}
+use Rattle.run.proofs.Laws.Script.{run-script-determined}
 use Rattle.plan.specs.declared.Planned.{Planned}
 use Rattle.plan.specs.Update.{PlanUpdated}
 use Rattle.plan.proofs.Laws.Update.{plan-update-determined}

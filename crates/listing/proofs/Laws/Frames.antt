@@ -7,18 +7,18 @@ use Prim.Native.Nat.{ℕ, _+_, _-_, _*_, _≤_}
 use native.Mathlib.Omega.{arith}
 use lib.ListN.{length, take, drop, length-append, length-take}
 use lib.Seq.{take-at, drop-at, drop-drop}
-use Rattle.record.specs.Record.{Record, frame, wait, longestScript, scriptLength, outputLength}
-use Rattle.record.specs.Decode.{Decoded, records, badAt, followed, decode}
-use Rattle.record.specs.Survey.{surveyOf}
-use Rattle.record.specs.declared.survey.Survey.{Survey}
-use Rattle.record.proofs.Laws.Decode.{decoded-length}
-use Rattle.record.proofs.Laws.Answers.{Stands, FrameTold, EndTold, RefusalTold}
-use Rattle.record.proofs.Laws.Survey.{survey-whole}
-use Rattle.script.specs.Run.{Device, step, outputOf, outputs}
-use Rattle.script.specs.Script.{isBad, recordsIn, recordsOf}
-use Rattle.script.proofs.Laws.Run.{frame-output-length}
-use Rattle.buffer.specs.Buffer.{Put}
-use Rattle.buffer.proofs.Laws.Buffer.{Left, left-start, left-room, left-turn, left-none}
+use Rattle.script.specs.Record.{Record, frame, wait, longestScript, scriptLength, outputLength}
+use Rattle.script.specs.Decode.{Decoded, records, badAt, followed, decode}
+use Rattle.script.specs.Survey.{surveyOf}
+use Rattle.script.specs.declared.survey.Survey.{Survey}
+use Rattle.script.proofs.Laws.Decode.{decoded-length}
+use Rattle.script.proofs.Laws.Answers.{Stands, FrameTold, EndTold, RefusalTold}
+use Rattle.script.proofs.Laws.Survey.{survey-whole}
+use Rattle.run.specs.Run.{Device, step, outputOf, outputs}
+use Rattle.run.specs.Script.{isBad, recordsIn, recordsOf}
+use Rattle.run.proofs.Laws.Run.{frame-output-length}
+use Rattle.common.specs.Buffer.{Put}
+use Rattle.common.proofs.Laws.Buffer.{Left, left-start, left-room, left-turn, left-none}
 use Rattle.listing.specs.Text.{hex}
 use Rattle.listing.specs.Listing.{high, frameLine, frameLines, cutLines}
 use Rattle.listing.proofs.Laws.Text.{length-line, length-hex}

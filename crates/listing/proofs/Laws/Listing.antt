@@ -10,23 +10,23 @@ use lib.ListN.{length, length-append, length-replicate}
 use borrow.Author.Tests.{eqb-true, eq-eqb, lt-ltb, le-ltb, ltb-true, ltb-false}
 use Rattle.common.proofs.Laws.Choice.{cond-elim, cases, yes, no}
 use Rattle.state.specs.declared.State.{State}
-use Rattle.state.specs.Chip.{isKnown, chipOf}
+use Rattle.chip.specs.Chip.{isKnown, chipOf}
 use Rattle.state.specs.State.{dataOf}
 use Rattle.state.specs.Power.{newState, newChip}
 use Rattle.state.specs.Status.{statusOf}
 use Rattle.state.proofs.Laws.Power.{new-sound}
-use Rattle.record.specs.Record.{Record, longestScript, outputLength}
-use Rattle.record.specs.Decode.{Fault, unknownMark, wrongLength, cutShort, faultNumber, Decoded, records, badAt, decode, decodeWithin}
-use Rattle.record.specs.Survey.{surveyOf, surveyed, refusedSurvey}
-use Rattle.record.specs.declared.survey.Survey.{Survey}
-use Rattle.record.proofs.Laws.Decode.{decoded-length, decoded-output}
-use Rattle.record.proofs.Laws.Survey.{fault-numbered, survey-long, survey-short, Whole, survey-whole}
-use Rattle.script.specs.declared.Ran.{Ran}
-use Rattle.script.specs.Run.{Device, device, run, outputs}
-use Rattle.script.specs.Script.{recordsIn, recordsOf, scriptNumber, surveyedNumber, scriptAnswer, scriptOutput, ScriptRun}
-use Rattle.script.proofs.Laws.Accepted.{number-surveyed}
-use Rattle.script.proofs.Laws.Run.{outputs-length}
-use Rattle.buffer.specs.Buffer.{Put}
+use Rattle.script.specs.Record.{Record, longestScript, outputLength}
+use Rattle.script.specs.Decode.{Fault, unknownMark, wrongLength, cutShort, faultNumber, Decoded, records, badAt, decode, decodeWithin}
+use Rattle.script.specs.Survey.{surveyOf, surveyed, refusedSurvey}
+use Rattle.script.specs.declared.survey.Survey.{Survey}
+use Rattle.script.proofs.Laws.Decode.{decoded-length, decoded-output}
+use Rattle.script.proofs.Laws.Survey.{fault-numbered, survey-long, survey-short, Whole, survey-whole}
+use Rattle.run.specs.declared.Ran.{Ran}
+use Rattle.run.specs.Run.{Device, device, run, outputs}
+use Rattle.run.specs.Script.{recordsIn, recordsOf, scriptNumber, surveyedNumber, scriptAnswer, scriptOutput, ScriptRun}
+use Rattle.run.proofs.Laws.Accepted.{number-surveyed}
+use Rattle.run.proofs.Laws.Run.{outputs-length}
+use Rattle.common.specs.Buffer.{Put}
 use Rattle.listing.specs.Text.{digit, hex, decimal, line}
 use Rattle.listing.specs.Listing.{high, erased, new05pa, statusLine, refusalLine, frameLines, decodedLines, listing, cutLines}
 use Rattle.listing.proofs.Laws.Text.{length-line, length-hex, decimal-short}

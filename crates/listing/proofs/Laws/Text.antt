@@ -10,8 +10,8 @@ use lib.ListN.{length, getD, drop, length-append, drop-of-length-le}
 use lib.Seq.{drop-cons}
 use borrow.Author.Tests.{lt-ltb, le-ltb}
 use Rattle.common.proofs.Laws.Choice.{cond-elim, yes, no}
-use Rattle.buffer.specs.Buffer.{Put}
-use Rattle.buffer.proofs.Laws.Buffer.{Left, left-start, left-room, left-fits, left-turn, left-last, left-none}
+use Rattle.common.specs.Buffer.{Put}
+use Rattle.common.proofs.Laws.Buffer.{Left, left-start, left-room, left-fits, left-turn, left-last, left-none}
 use Rattle.listing.specs.Text.{digit, pair, hex, decimal, line}
 
 pub length-line : (letter : ℕ) (told : List ℕ) → length (line letter told) ≡ 3 + length told

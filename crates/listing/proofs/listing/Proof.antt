@@ -8,11 +8,11 @@ use lib.ListN.{length, take, drop, length-append}
 use lib.Seq.{take-at, length-take-le}
 use Rattle.state.specs.Power.{newChip}
 use Rattle.state.specs.Status.{statusOf}
-use Rattle.record.specs.Record.{longestScript}
-use Rattle.record.specs.Survey.{surveyOf}
-use Rattle.record.specs.declared.survey.Survey.{Survey}
-use Rattle.script.specs.Script.{recordsOf, ScriptRun}
-use Rattle.buffer.proofs.Laws.Buffer.{Left, left-start, left-fits, left-turn, left-last}
+use Rattle.script.specs.Record.{longestScript}
+use Rattle.script.specs.Survey.{surveyOf}
+use Rattle.script.specs.declared.survey.Survey.{Survey}
+use Rattle.run.specs.Script.{recordsOf, ScriptRun}
+use Rattle.common.proofs.Laws.Buffer.{Left, left-start, left-fits, left-turn, left-last}
 use Rattle.listing.specs.Text.{hex, line}
 use Rattle.listing.specs.Listing.{high, erased, listing, cutLines}
 use Rattle.listing.proofs.Laws.Listing.{refusal-length, number-small, output-small, listing-fits, listing-refused, ran-number, ran-length, ran-listing}

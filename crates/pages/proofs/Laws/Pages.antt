@@ -10,11 +10,11 @@ use lib.Dec.{ltb}
 use lib.ListN.{length}
 use borrow.Author.Tests.{lt-ltb}
 use Rattle.common.proofs.Laws.Lists.{split, length-tab}
-use Rattle.record.specs.Record.{Record, AllFit, scriptLength, framesIn, microsecondsIn}
-use Rattle.record.proofs.Laws.Records.{script-length-append, frames-append, microseconds-append, all-fit-append}
-use Rattle.state.specs.Status.{bit}
-use Rattle.steps.specs.Measure.{measureOf}
-use Rattle.steps.proofs.Laws.Flags.{bit-le}
+use Rattle.script.specs.Record.{Record, AllFit, scriptLength, framesIn, microsecondsIn}
+use Rattle.script.proofs.Laws.Records.{script-length-append, frames-append, microseconds-append, all-fit-append}
+use Rattle.common.specs.Bits.{bit}
+use Rattle.script.specs.Measure.{measureOf}
+use Rattle.common.proofs.Laws.Flags.{bit-le}
 use Rattle.pages.specs.Pages.{beforeFirst, throughLast, partLength, partRecords, pagesStep}
 use Rattle.pages.specs.Parts.{pageCount, byteCount}
 use Rattle.pages.proofs.Laws.Spans.{first-false, last-le, last-true, last-false, last-none}

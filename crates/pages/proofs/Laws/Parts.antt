@@ -10,10 +10,10 @@ use lib.ListN.{length, getD, take, drop, length-drop}
 use lib.Seq.{ext-getD, getD-take, getD-drop, length-take-le}
 use Rattle.common.specs.Lists.{tab}
 use Rattle.common.proofs.Laws.Lists.{split, length-tab, getD-tab}
-use Rattle.record.specs.Record.{frame, wait, encodeRecord, encode}
-use Rattle.steps.specs.Region.{addressBytes, wantedAt}
-use Rattle.steps.specs.Head.{frameHead}
-use Rattle.steps.proofs.Laws.Region.{wanted-inside}
+use Rattle.script.specs.Record.{frame, wait, encodeRecord, encode}
+use Rattle.region.specs.Region.{addressBytes, wantedAt}
+use Rattle.script.specs.Head.{frameHead}
+use Rattle.region.proofs.Laws.Region.{wanted-inside}
 use Rattle.pages.specs.declared.Part.{Part}
 use Rattle.pages.specs.Pages.{beforeFirst, throughLast, partLength, partRecords}
 use Rattle.pages.specs.Parts.{First, Behind, PartIn, PagePart}

@@ -10,9 +10,9 @@ use mir.Val.{boolByte}
 use lib.Dec.{ltb}
 use borrow.Author.Tests.{lt-ltb, le-ltb}
 use Rattle.common.proofs.Laws.Lists.{split}
-use Rattle.record.specs.Record.{encode}
-use Rattle.record.proofs.Laws.Records.{encode-append}
-use Rattle.steps.proofs.Laws.Flags.{flag-is}
+use Rattle.script.specs.Record.{encode}
+use Rattle.script.proofs.Laws.Records.{encode-append}
+use Rattle.common.proofs.Laws.Flags.{flag-is}
 use Rattle.pages.specs.declared.Part.{Part}
 use Rattle.pages.specs.Pages.{partRecords, pagesStep, pagesIn}
 use Rattle.pages.specs.Parts.{pageCount, byteCount, PagePart}

@@ -5,7 +5,7 @@ use mathlib.Core.Bool.{false}
 use Prim.Native.Nat.{ℕ, _-_, _≤_, _<_}
 use native.Mathlib.Omega.{arith}
 use borrow.Author.Needs.{needs}
-use Rattle.steps.specs.Region.{changes}
+use Rattle.region.specs.Region.{changes}
 use Rattle.pages.proofs.Laws.Spans.{above-more}
 use Rattle.pages.proofs.behind_last.Statement.{statement}
 use Rattle.pages.proofs.behind_last.Tie as tie

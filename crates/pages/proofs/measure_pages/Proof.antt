@@ -5,7 +5,7 @@ use Prim.Native.Nat.{_+_, _-_, _*_, _/_, _≤_}
 use native.Mathlib.Omega.{arith}
 use lib.ListN.{length}
 use borrow.Author.Needs.{needs}
-use Rattle.steps.specs.Region.{changes}
+use Rattle.region.specs.Region.{changes}
 use Rattle.pages.specs.Pages.{pagesIn}
 use Rattle.pages.specs.Parts.{pageCount, byteCount}
 use Rattle.pages.proofs.Laws.Pages.{pages-step-measure}

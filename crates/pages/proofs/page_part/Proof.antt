@@ -2,7 +2,7 @@
 -- Assumes nothing.
 use native.Mathlib.Omega.{arith}
 use borrow.Author.Needs.{needs}
-use Rattle.steps.proofs.Laws.Region.{changes-before, changes-behind}
+use Rattle.region.proofs.Laws.Region.{changes-before, changes-behind}
 use Rattle.pages.proofs.Laws.Parts.{page-part}
 use Rattle.pages.proofs.page_part.Statement.{statement}
 use Rattle.pages.proofs.page_part.Tie as tie

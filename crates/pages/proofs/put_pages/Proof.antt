@@ -3,9 +3,9 @@
 use mathlib.Core.Path.{_≡_}
 use Prim.Native.Nat.{_+_, _-_, _*_, _/_, _%_, _≤_}
 use native.Mathlib.Omega.{arith}
-use Rattle.record.specs.Record.{encode}
-use Rattle.steps.specs.Region.{wantedAt, changes}
-use Rattle.buffer.proofs.Laws.Buffer.{Left, left-start, left-room, left-turn, left-none}
+use Rattle.script.specs.Record.{encode}
+use Rattle.region.specs.Region.{wantedAt, changes}
+use Rattle.common.proofs.Laws.Buffer.{Left, left-start, left-room, left-turn, left-none}
 use Rattle.pages.specs.Pages.{partRecords, pagesStep}
 use Rattle.pages.proofs.Laws.Walk.{pagesLeft, pages-start, pages-turn, pages-end}
 use Rattle.pages.proofs.put_pages.Statement.{statement}

@@ -11,15 +11,15 @@ use lib.Dec.{leb, eqb}
 use lib.ListN.{length, getD}
 use Rattle.common.proofs.Laws.Choice.{cond-elim}
 use Rattle.common.proofs.Laws.Lists.{split}
-use Rattle.record.specs.Record.{Record, AllFit, encode, scriptLength, framesIn, microsecondsIn}
-use Rattle.record.specs.Decode.{records, decode}
-use Rattle.record.proofs.Laws.Decode.{decode-encode}
-use Rattle.record.proofs.Laws.Records.{script-length-append, frames-append, microseconds-append, all-fit-append, encoded-length, encode-append, frames-bound}
+use Rattle.script.specs.Record.{Record, AllFit, encode, scriptLength, framesIn, microsecondsIn}
+use Rattle.script.specs.Decode.{records, decode}
+use Rattle.script.proofs.Laws.Decode.{decode-encode}
+use Rattle.script.proofs.Laws.Records.{script-length-append, frames-append, microseconds-append, all-fit-append, encoded-length, encode-append, frames-bound}
 use Rattle.state.specs.declared.State.{State}
 use Rattle.state.specs.State.{dataOf}
-use Rattle.steps.specs.Region.{wantedAt, changes}
-use Rattle.steps.specs.Measure.{measureOf}
-use Rattle.steps.proofs.Laws.Region.{any-none, changes-before, changes-behind, changes-at}
+use Rattle.region.specs.Region.{wantedAt, changes}
+use Rattle.script.specs.Measure.{measureOf}
+use Rattle.region.proofs.Laws.Region.{any-none, changes-before, changes-behind, changes-at}
 use Rattle.words.specs.Words.{wordsIn}
 use Rattle.words.proofs.Laws.Words.{words-step-fits, words-step-le, words-step-none, words-step-unchanged}
 use Rattle.pages.specs.Pages.{pagesIn}

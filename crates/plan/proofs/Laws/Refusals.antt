@@ -13,12 +13,12 @@ use Rattle.common.specs.Refusals.{firstOf}
 use Rattle.common.proofs.Laws.Booleans.{or-none-l, or-none-r}
 use Rattle.common.proofs.Laws.Lists.{split}
 use Rattle.common.proofs.Laws.Refusals.{Clear, clear}
-use Rattle.record.specs.Record.{encode}
+use Rattle.script.specs.Record.{encode}
 use Rattle.state.specs.declared.State.{State}
 use Rattle.state.specs.State.{dataOf}
 use Rattle.state.specs.Soundness.{isSound, isBusy}
-use Rattle.state.proofs.Laws.Chip.{regular}
-use Rattle.steps.specs.Region.{Inside}
+use Rattle.chip.proofs.Laws.Chip.{regular}
+use Rattle.region.specs.Region.{Inside}
 use Rattle.plan.specs.Plan.{stepOneNeeded, planRecords}
 use Rattle.plan.specs.Refusals.{longestWanted, regionRefusals, scriptRefusals, planRefusals, planRefusal, RegionAccepted, Accepted}
 use Rattle.plan.proofs.Laws.Exactly.{Exactly, Given, given-exactly, first-behind, first-before}

@@ -7,13 +7,13 @@ use Prim.Native.Nat.{ℕ, _<_}
 use native.Mathlib.Omega.{arith}
 use lib.ListN.{length}
 use borrow.Author.Tests.{ne-eqb}
-use Rattle.record.specs.Record.{Record, encode, framesIn, microsecondsIn}
-use Rattle.record.proofs.Laws.Records.{encoded-length}
+use Rattle.script.specs.Record.{Record, encode, framesIn, microsecondsIn}
+use Rattle.script.proofs.Laws.Records.{encoded-length}
 use Rattle.state.specs.declared.State.{State}
-use Rattle.steps.specs.declared.measure.Measure.{Measure}
-use Rattle.buffer.specs.Buffer.{written}
-use Rattle.steps.specs.Measure.{measureOf}
-use Rattle.buffer.proofs.Laws.Buffer.{written-front}
+use Rattle.script.specs.declared.measure.Measure.{Measure}
+use Rattle.common.specs.Buffer.{written}
+use Rattle.script.specs.Measure.{measureOf}
+use Rattle.common.proofs.Laws.Buffer.{written-front}
 use Rattle.plan.specs.declared.Planned.{Planned}
 use Rattle.plan.specs.Plan.{planRecords}
 use Rattle.plan.specs.Refusals.{planRefusal}

@@ -5,7 +5,7 @@ use native.Mathlib.Omega.{arith}
 use borrow.Author.Needs.{needs}
 use Rattle.common.specs.Refusals.{firstOf}
 use Rattle.state.proofs.Laws.Soundness.{sound-of}
-use Rattle.steps.specs.Region.{Inside}
+use Rattle.region.specs.Region.{Inside}
 use Rattle.plan.specs.Plan.{planRecords}
 use Rattle.plan.specs.Refusals.{regionRefusals}
 use Rattle.plan.proofs.Laws.Refusals.{region-accepted, accepted-inside, refusal-region, refusal-9, refusal-10, of-accepted}

@@ -3,9 +3,9 @@
 use mathlib.Core.List.{_++_}
 use native.Mathlib.Omega.{arith}
 use borrow.Author.Needs.{needs}
-use Rattle.record.specs.Record.{encode}
+use Rattle.script.specs.Record.{encode}
 use Rattle.state.specs.State.{dataOf}
-use Rattle.buffer.proofs.Laws.Buffer.{Whole, left-start, left-room, left-turn, left-fits, left-last}
+use Rattle.common.proofs.Laws.Buffer.{Whole, left-start, left-room, left-turn, left-fits, left-last}
 use Rattle.plan.specs.Plan.{statusStep, programStep}
 use Rattle.plan.proofs.Laws.Plan.{plan-bytes}
 use Rattle.plan.proofs.put_plan.Statement.{statement}

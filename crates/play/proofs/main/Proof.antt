@@ -2,7 +2,7 @@
 -- Assumes nothing.
 use mathlib.Core.Path.{sym}
 use lib.Seq.{length-take-le}
-use Rattle.buffer.proofs.Laws.Buffer.{front-within}
+use Rattle.common.proofs.Laws.Buffer.{front-within}
 use borrow.Author.Needs.{needs}
 use Rattle.play.proofs.main.Statement.{statement}
 use Rattle.play.proofs.main.Tie as tie

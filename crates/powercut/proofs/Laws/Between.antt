@@ -9,11 +9,11 @@ use native.Mathlib.Omega.{arith}
 use lib.Bits.{bitAnd, bitOr, and-self, and-comm, and-le-l, and-le-r}
 use lib.Dec.{eqb}
 use Rattle.common.proofs.Laws.Choice.{cond-elim}
-use Rattle.record.specs.Record.{AllBytes}
-use Rattle.frame.specs.Cut.{mixed}
+use Rattle.script.specs.Record.{AllBytes}
+use Rattle.effect.specs.Cut.{mixed}
 use Rattle.common.specs.Bits.{Bytes, bitAt}
 use Rattle.common.proofs.Laws.Bits.{bit-lt, bit-and, bits-ext, and-assoc, and-or, NoRise, no-rise-refl, no-rise-trans, no-rise-and, no-rise-part, no-rise-or}
-use Rattle.frame.proofs.Laws.Cut.{bit-mixed, mixed-lt}
+use Rattle.effect.proofs.Laws.Cut.{bit-mixed, mixed-lt}
 
 -- a list of bytes, place by place
 pub bytes-of : (l : List ℕ) → AllBytes l → Bytes l

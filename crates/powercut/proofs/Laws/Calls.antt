@@ -15,15 +15,15 @@ use Rattle.state.specs.declared.Answer.{Answer}
 use Rattle.state.specs.State.{dataOf}
 use Rattle.state.specs.Answer.{answered}
 use Rattle.state.specs.Power.{poweredUp, powerUp}
-use Rattle.record.specs.Record.{Record, frame, AllBytes, encode, framesIn, microsecondsIn, outputLength}
-use Rattle.record.proofs.Laws.Records.{encoded-length}
+use Rattle.script.specs.Record.{Record, frame, AllBytes, encode, framesIn, microsecondsIn, outputLength}
+use Rattle.script.proofs.Laws.Records.{encoded-length}
 use Rattle.state.proofs.Laws.Soundness.{sound-of}
 use Rattle.frame.specs.Call.{stateAt, cutAnswer, cutArray, CutRun}
 use Rattle.frame.proofs.Laws.Accepted.{cut-number-accepted}
-use Rattle.script.specs.declared.Ran.{Ran}
-use Rattle.script.specs.Run.{Device, device, run}
-use Rattle.script.specs.Script.{recordsOf, scriptNumber, ranRecords, scriptAnswer, scriptArray, ScriptRun}
-use Rattle.script.proofs.Laws.Accepted.{accepted-number, encoded-accepted}
+use Rattle.run.specs.declared.Ran.{Ran}
+use Rattle.run.specs.Run.{Device, device, run}
+use Rattle.run.specs.Script.{recordsOf, scriptNumber, ranRecords, scriptAnswer, scriptArray, ScriptRun}
+use Rattle.run.proofs.Laws.Accepted.{accepted-number, encoded-accepted}
 use Rattle.plan.specs.declared.Planned.{Planned}
 use Rattle.plan.specs.Plan.{planRecords}
 use Rattle.plan.specs.Refusals.{planRefusal}

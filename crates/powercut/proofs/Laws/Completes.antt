@@ -14,8 +14,8 @@ use Rattle.state.specs.Soundness.{Sound}
 use Rattle.state.proofs.Laws.Answer.{answer-sound}
 use Rattle.state.proofs.Laws.Soundness.{sound-of, of-sound}
 use Rattle.common.specs.Bits.{Bytes}
-use Rattle.script.specs.Run.{device, run}
-use Rattle.script.proofs.Laws.Run.{Ready, run-ready, frame-among-taken}
+use Rattle.run.specs.Run.{device, run}
+use Rattle.run.proofs.Laws.Run.{Ready, run-ready, frame-among-taken}
 use Rattle.plan.specs.Plan.{planRecords}
 use Rattle.plan.specs.Refusals.{Accepted}
 use Rattle.plan.proofs.Laws.Plan.{plan-fits}

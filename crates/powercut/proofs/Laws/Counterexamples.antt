@@ -10,26 +10,26 @@ use lib.ListN.{length, getD}
 use Rattle.common.specs.Lists.{mapi}
 use Rattle.common.proofs.Laws.Lists.{getD-mapi}
 use Rattle.state.specs.declared.State.{State}
-use Rattle.state.specs.Chip.{isKnown, chipOf}
+use Rattle.chip.specs.Chip.{isKnown, chipOf}
 use Rattle.state.specs.State.{dataOf, withAai}
 use Rattle.state.specs.Protection.{firstProtected}
 use Rattle.state.specs.Power.{atRest, newState, poweredUp}
 use Rattle.state.specs.Soundness.{isSound}
 use Rattle.state.specs.Time.{cycleEnded, timePassed}
 use Rattle.state.proofs.Laws.Soundness.{sound-of}
-use Rattle.opcode.specs.Instructions.{kindOf}
+use Rattle.chip.specs.Instructions.{kindOf}
 use Rattle.command.specs.Command.{address, writable, byKind, inAai, commandOf}
-use Rattle.command.specs.Registers.{stateAfter}
-use Rattle.record.specs.Record.{Record, frame, wait}
-use Rattle.frame.specs.declared.effect.Effect.{Effect}
-use Rattle.frame.specs.declared.effect.Effect.the-variants.{Program}
-use Rattle.frame.specs.Effect.{touches, struck, changed}
-use Rattle.frame.specs.Cut.{mixed, maskPlace}
+use Rattle.registers.specs.Registers.{stateAfter}
+use Rattle.script.specs.Record.{Record, frame, wait}
+use Rattle.effect.specs.declared.Effect.{Effect}
+use Rattle.effect.specs.declared.Effect.the-variants.{Program}
+use Rattle.effect.specs.Effect.{touches, struck, changed}
+use Rattle.effect.specs.Cut.{mixed, maskPlace}
 use Rattle.frame.specs.Call.{effectAt}
-use Rattle.frame.proofs.Laws.Effect.{mask-place-start}
-use Rattle.script.specs.Run.{Device, device, run}
-use Rattle.script.proofs.Laws.Run.{Ready}
-use Rattle.steps.specs.Region.{within, wantedAt, changes}
+use Rattle.effect.proofs.Laws.Effect.{mask-place-start}
+use Rattle.run.specs.Run.{Device, device, run}
+use Rattle.run.proofs.Laws.Run.{Ready}
+use Rattle.region.specs.Region.{within, wantedAt, changes}
 use Rattle.words.specs.Words.{changingWords, joined, runsOf, furtherRecords, runRecords, runsRecords, wordsStep, wordsIn}
 use Rattle.plan.specs.Plan.{programStep}
 use Rattle.plan.specs.Refusals.{planRefusal}

@@ -11,18 +11,18 @@ use lib.ListN.{length}
 use borrow.Author.Tests.{le-leb, lt-ltb, le-ltb}
 use Rattle.common.proofs.Laws.Booleans.{and-i}
 use Rattle.state.specs.declared.State.{State}
-use Rattle.state.specs.declared.chip.Chip.{Chip}
-use Rattle.state.specs.Chip.{f25l008a, f25l05pa, chipOf}
+use Rattle.chip.specs.declared.Chip.{Chip}
+use Rattle.chip.specs.Chip.{f25l008a, f25l05pa, chipOf}
 use Rattle.state.specs.State.{dataOf}
 use Rattle.state.specs.Protection.{firstProtected}
 use Rattle.state.specs.Time.{cycleEnded, timePassed}
-use Rattle.state.proofs.Laws.Chip.{regular}
+use Rattle.chip.proofs.Laws.Chip.{regular}
 use Rattle.state.proofs.Laws.Protection.{first-border}
-use Rattle.opcode.specs.Kinds.{pageProgram, aaiProgram, ewsr, wrsr, wren, wrdi}
-use Rattle.opcode.specs.Instructions.{instructions008A, instructions05PA, instructionsOf, kindIn, kindOf}
+use Rattle.chip.specs.Kinds.{pageProgram, aaiProgram, ewsr, wrsr, wren, wrdi}
+use Rattle.chip.specs.Instructions.{instructions008A, instructions05PA, instructionsOf, kindIn, kindOf}
 use Rattle.command.specs.declared.Command.the-variants.{WriteEnable, WriteDisable, Arm, WriteStatus, ProgramPage, ProgramWord}
 use Rattle.command.specs.Command.{address, writable, byKind, inAai, commandOf}
-use Rattle.steps.specs.Region.{addressBytes}
+use Rattle.region.specs.Region.{addressBytes}
 use Rattle.powercut.proofs.Laws.States.{rest, running, busy, border, first-by}
 
 -- ---- the opcodes of a plan, on the chips that have them

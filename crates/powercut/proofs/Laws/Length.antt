@@ -14,12 +14,12 @@ use Rattle.common.proofs.Laws.Choice.{cases}
 use Rattle.common.proofs.Laws.Lists.{split}
 use Rattle.state.specs.declared.State.{State}
 use Rattle.state.specs.State.{dataOf}
-use Rattle.state.specs.Status.{bit}
-use Rattle.record.specs.Record.{encode, scriptLength}
-use Rattle.record.proofs.Laws.Records.{encoded-length}
-use Rattle.steps.specs.declared.measure.Measure.{Measure}
-use Rattle.steps.specs.Measure.{measureOf}
-use Rattle.steps.specs.Region.{wantedAt, changes}
+use Rattle.common.specs.Bits.{bit}
+use Rattle.script.specs.Record.{encode, scriptLength}
+use Rattle.script.proofs.Laws.Records.{encoded-length}
+use Rattle.script.specs.declared.measure.Measure.{Measure}
+use Rattle.script.specs.Measure.{measureOf}
+use Rattle.region.specs.Region.{wantedAt, changes}
 use Rattle.words.specs.Words.{wordChanges, wordsStep, wordsIn}
 use Rattle.words.specs.Walk.{wordCount, runCount}
 use Rattle.words.proofs.Laws.Words.{words-step-measure}

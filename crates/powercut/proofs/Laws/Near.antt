@@ -12,12 +12,12 @@ use lib.ListN.{length, getD, List·getD-eq-default}
 use Rattle.common.specs.Lists.{mapi}
 use Rattle.common.proofs.Laws.Choice.{cases}
 use Rattle.common.proofs.Laws.Lists.{length-mapi, getD-mapi, mapi-id, split}
-use Rattle.frame.specs.declared.effect.Effect.{Effect}
-use Rattle.frame.specs.declared.effect.Effect.the-variants.{Keep, Program}
-use Rattle.frame.specs.Effect.{touches, struck, changed}
-use Rattle.frame.specs.Cut.{maskPlace, cut}
+use Rattle.effect.specs.declared.Effect.{Effect}
+use Rattle.effect.specs.declared.Effect.the-variants.{Keep, Program}
+use Rattle.effect.specs.Effect.{touches, struck, changed}
+use Rattle.effect.specs.Cut.{maskPlace, cut}
 use Rattle.common.specs.Bits.{Bytes}
-use Rattle.frame.proofs.Laws.Effect.{within-bounds, changed-touched, changed-other, cut-touched, cut-other}
+use Rattle.effect.proofs.Laws.Effect.{within-bounds, changed-touched, changed-other, cut-touched, cut-other}
 use Rattle.powercut.proofs.Laws.Between.{Between, and-again, between-start, between-lt, between-programmed, between-mixed, between-same}
 
 -- by address: `w` the byte that is wanted

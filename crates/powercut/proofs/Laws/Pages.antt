@@ -14,13 +14,13 @@ use Rattle.common.proofs.Laws.Lists.{split, length-tab, getD-tab}
 use Rattle.state.specs.declared.State.{State}
 use Rattle.state.specs.State.{dataOf}
 use Rattle.command.specs.declared.Command.the-variants.{WriteEnable, ProgramPage}
-use Rattle.command.specs.Registers.{stateAfter}
-use Rattle.record.specs.Record.{Record}
-use Rattle.frame.specs.declared.effect.Effect.{Effect}
-use Rattle.frame.specs.declared.effect.Effect.the-variants.{Program}
-use Rattle.frame.specs.Effect.{pageEffect, touches}
-use Rattle.frame.proofs.Laws.Effect.{within-yes}
-use Rattle.steps.specs.Region.{addressBytes}
+use Rattle.registers.specs.Registers.{stateAfter}
+use Rattle.script.specs.Record.{Record}
+use Rattle.effect.specs.declared.Effect.{Effect}
+use Rattle.effect.specs.declared.Effect.the-variants.{Program}
+use Rattle.effect.specs.Effect.{pageEffect, touches}
+use Rattle.effect.proofs.Laws.Effect.{within-yes}
+use Rattle.region.specs.Region.{addressBytes}
 use Rattle.pages.specs.Pages.{beforeFirst, partLength, partRecords, pagesStep}
 use Rattle.pages.proofs.Laws.Spans.{first-false, first-true, last-le, last-false}
 use Rattle.powercut.specs.PowerCut.{stateAfterPlan}

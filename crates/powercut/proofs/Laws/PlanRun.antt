@@ -13,13 +13,13 @@ use Rattle.state.specs.declared.State.{State}
 use Rattle.state.specs.State.{dataOf}
 use Rattle.state.specs.Protection.{firstProtected}
 use Rattle.state.specs.Soundness.{Sound}
-use Rattle.state.proofs.Laws.Chip.{regular}
+use Rattle.chip.proofs.Laws.Chip.{regular}
 use Rattle.state.proofs.Laws.Soundness.{sound-of}
-use Rattle.record.specs.Record.{Record}
+use Rattle.script.specs.Record.{Record}
 use Rattle.common.specs.Bits.{Bytes}
-use Rattle.script.specs.Run.{device}
-use Rattle.steps.specs.Region.{wantedAt, changes}
-use Rattle.steps.proofs.Laws.Region.{any-false, any-none}
+use Rattle.run.specs.Run.{device}
+use Rattle.region.specs.Region.{wantedAt, changes}
+use Rattle.region.proofs.Laws.Region.{any-false, any-none}
 use Rattle.words.specs.Words.{wordsIn}
 use Rattle.pages.specs.Pages.{pagesIn}
 use Rattle.plan.specs.Plan.{isProtectedChange, stepOneNeeded, statusRecords, programStep, planRecords}

@@ -7,13 +7,13 @@ use Prim.Native.Nat.{ℕ, _+_}
 use lib.ListN.{length}
 use Rattle.state.specs.declared.State.{State}
 use Rattle.state.proofs.Laws.Soundness.{sound-of}
-use Rattle.record.specs.Record.{Record, AllBytes}
-use Rattle.record.proofs.Laws.Decode.{decode-encode}
+use Rattle.script.specs.Record.{Record, AllBytes}
+use Rattle.script.proofs.Laws.Decode.{decode-encode}
 use Rattle.frame.proofs.Laws.Accepted.{cut-number-whole}
 use Rattle.common.specs.Bits.{Bytes}
 use Rattle.frame.proofs.Laws.Call.{cut-accepted}
-use Rattle.script.specs.Script.{recordsIn}
-use Rattle.script.specs.Run.{Device, device, run}
+use Rattle.run.specs.Script.{recordsIn}
+use Rattle.run.specs.Run.{Device, device, run}
 use Rattle.plan.specs.Plan.{planRecords}
 use Rattle.plan.specs.Refusals.{planRefusal, Accepted}
 use Rattle.plan.proofs.Laws.Plan.{plan-fits}

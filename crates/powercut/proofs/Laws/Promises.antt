@@ -9,10 +9,10 @@ use lib.ListN.{length, getD}
 use Rattle.common.proofs.Laws.Choice.{cases}
 use Rattle.state.specs.declared.State.{State}
 use Rattle.state.specs.State.{withWel, withArmed}
-use Rattle.record.specs.Record.{Record, AllBytes}
+use Rattle.script.specs.Record.{Record, AllBytes}
 use Rattle.common.specs.Bits.{bitAt}
-use Rattle.script.specs.Run.{Device}
-use Rattle.steps.specs.Region.{within}
+use Rattle.run.specs.Run.{Device}
+use Rattle.region.specs.Region.{within}
 use Rattle.plan.specs.Plan.{planRecords}
 use Rattle.plan.specs.Refusals.{planRefusal}
 use Rattle.powercut.specs.PowerCut.{stateAfterPlan, Finished, PowerLost}

@@ -9,15 +9,15 @@ use native.Mathlib.Omega.{arith}
 use lib.ListN.{length}
 use Rattle.common.proofs.Laws.Choice.{cases}
 use Rattle.state.specs.declared.State.{State}
-use Rattle.state.specs.Chip.{chipOf}
+use Rattle.chip.specs.Chip.{chipOf}
 use Rattle.state.specs.State.{dataOf}
 use Rattle.state.specs.Power.{atRest, newState, poweredUp}
 use Rattle.state.specs.Protection.{firstProtected}
 use Rattle.state.proofs.Laws.Power.{powered-up-sound}
 use Rattle.state.proofs.Laws.Soundness.{of-sound}
 use Rattle.common.specs.Bits.{Bytes}
-use Rattle.script.specs.Run.{Device, device}
-use Rattle.steps.specs.Region.{wantedAt, changes}
+use Rattle.run.specs.Run.{Device, device}
+use Rattle.region.specs.Region.{wantedAt, changes}
 use Rattle.plan.specs.Plan.{stepOneNeeded, planRecords}
 use Rattle.plan.specs.Refusals.{Accepted}
 use Rattle.plan.proofs.Laws.Refusals.{of-accepted}

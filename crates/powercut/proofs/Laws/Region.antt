@@ -16,9 +16,9 @@ use Rattle.common.proofs.Laws.Choice.{cases}
 use Rattle.common.proofs.Laws.Lists.{split, length-mapi, getD-mapi}
 use Rattle.common.specs.Bits.{Bytes}
 use Rattle.common.proofs.Laws.Bits.{and-full}
-use Rattle.frame.proofs.Laws.Effect.{within-bounds, within-below, within-above}
-use Rattle.steps.specs.Region.{within, wantedAt, changes, rises, anyOf}
-use Rattle.steps.proofs.Laws.Region.{any-false, any-none}
+use Rattle.effect.proofs.Laws.Effect.{within-bounds, within-below, within-above}
+use Rattle.region.specs.Region.{within, wantedAt, changes, rises, anyOf}
+use Rattle.region.proofs.Laws.Region.{any-false, any-none}
 use Rattle.powercut.specs.PowerCut.{updated, Partway}
 use Rattle.powercut.proofs.Laws.Between.{between-bit}
 use Rattle.powercut.proofs.Laws.Near.{Near, Settled, settled-start, settled-same, settled-value}

@@ -12,13 +12,14 @@ use Rattle.state.specs.Time.{timePassed}
 use Rattle.state.proofs.Laws.Time.{time-passed-sound}
 use Rattle.command.specs.declared.Command.{Command}
 use Rattle.command.specs.Command.{commandOf}
-use Rattle.command.specs.Registers.{stateAfter}
-use Rattle.command.proofs.Laws.Kept.{command-sound}
-use Rattle.record.specs.Record.{Record, frame, wait, AllFit}
-use Rattle.frame.specs.declared.effect.Effect.the-variants.{Keep}
-use Rattle.frame.specs.Effect.{effectOf, changed}
-use Rattle.script.specs.Run.{Device, device, step, run}
-use Rattle.script.proofs.Laws.Run.{run-append}
+use Rattle.registers.specs.Registers.{stateAfter}
+use Rattle.registers.proofs.Laws.Kept.{command-sound}
+use Rattle.script.specs.Record.{Record, frame, wait, AllFit}
+use Rattle.effect.specs.declared.Effect.the-variants.{Keep}
+use Rattle.effect.specs.Effect.{changed}
+use Rattle.frame.specs.Effect.{effectOf}
+use Rattle.run.specs.Run.{Device, device, step, run}
+use Rattle.run.proofs.Laws.Run.{run-append}
 use Rattle.powercut.proofs.Laws.Near.{Near, Programs, Settled, keep-programs, keep-array, near-cut}
 use Rattle.powercut.proofs.Laws.Safe.{Task, HeldBy, Safe, Inside, Always, always-append, always-now, safe-accepted}
 use Rattle.powercut.proofs.Laws.Trace.{step-frame, step-wait}

@@ -11,12 +11,12 @@ use Rattle.common.specs.Lists.{mapi}
 use Rattle.state.specs.declared.State.{State}
 use Rattle.state.specs.State.{dataOf}
 use Rattle.state.specs.Soundness.{Sound}
-use Rattle.record.specs.Record.{Record, frame, wait, Fits}
-use Rattle.frame.specs.Cut.{cut}
+use Rattle.script.specs.Record.{Record, frame, wait, Fits}
+use Rattle.effect.specs.Cut.{cut}
 use Rattle.frame.specs.Call.{effectAt, stateAt}
 use Rattle.frame.proofs.Laws.Accepted.{Accepted}
 use Rattle.common.specs.Bits.{Bytes}
-use Rattle.script.specs.Run.{Device, device, step, run}
+use Rattle.run.specs.Run.{Device, device, step, run}
 use Rattle.powercut.proofs.Laws.Near.{Near}
 
 -- a chip as it was given, the level, and the byte that is wanted at each address

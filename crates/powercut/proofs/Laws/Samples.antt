@@ -6,12 +6,12 @@ use mathlib.Core.List.{List, [], _∷_, _++_}
 use Prim.Native.Nat.{ℕ, _+_, _-_}
 use native.Mathlib.Omega.{arith}
 use lib.ListN.{getD}
-use Rattle.state.specs.Chip.{chipOf}
+use Rattle.chip.specs.Chip.{chipOf}
 use Rattle.state.specs.Protection.{firstProtected}
 use Rattle.state.specs.Power.{atRest}
-use Rattle.record.specs.Record.{Record, frame, wait}
-use Rattle.steps.specs.Region.{within, wantedAt, changes, anyOf}
-use Rattle.steps.proofs.Laws.Region.{changes-before, changes-behind}
+use Rattle.script.specs.Record.{Record, frame, wait}
+use Rattle.region.specs.Region.{within, wantedAt, changes, anyOf}
+use Rattle.region.proofs.Laws.Region.{changes-before, changes-behind}
 use Rattle.words.specs.Words.{changingWords, joined, runsOf, furtherRecords, runRecords, runsRecords, wordsStep}
 use Rattle.pages.specs.Pages.{beforeFirst, throughLast, partLength, partRecords, pagesStep}
 use Rattle.pages.proofs.Laws.Spans.{first-is, last-is}

@@ -9,7 +9,7 @@ use Rattle.state.specs.declared.State.{State}
 use Rattle.state.specs.State.{withLeft, withWel, withArmed, withDown, withAai, withBits}
 use Rattle.state.specs.Protection.{firstProtected}
 use Rattle.state.specs.Soundness.{Sound}
-use Rattle.record.specs.Record.{Record}
+use Rattle.script.specs.Record.{Record}
 use Rattle.powercut.specs.PowerCut.{stateAfterPlan}
 
 -- nothing going on

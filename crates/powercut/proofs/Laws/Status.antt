@@ -10,11 +10,11 @@ use lib.Dec.{eqb}
 use Rattle.common.proofs.Laws.Choice.{cases}
 use Rattle.state.specs.declared.State.{State}
 use Rattle.state.specs.State.{dataOf}
-use Rattle.state.specs.Status.{bit}
+use Rattle.common.specs.Bits.{bit}
 use Rattle.command.specs.declared.Command.the-variants.{WriteEnable, Arm, WriteStatus}
-use Rattle.command.specs.Registers.{has, stateAfter}
-use Rattle.record.specs.Record.{frame}
-use Rattle.steps.proofs.Laws.Flags.{bit-le}
+use Rattle.registers.specs.Registers.{has, stateAfter}
+use Rattle.script.specs.Record.{frame}
+use Rattle.common.proofs.Laws.Flags.{bit-le}
 use Rattle.plan.specs.Plan.{statusByte, statusRecords}
 use Rattle.powercut.proofs.Laws.States.{rest}
 use Rattle.powercut.proofs.Laws.Safe.{Task, Held}

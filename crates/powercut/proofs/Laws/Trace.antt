@@ -12,13 +12,13 @@ use Rattle.state.specs.Soundness.{Sound}
 use Rattle.state.specs.Time.{timePassed, passTime}
 use Rattle.state.proofs.Laws.Answer.{answer-sound}
 use Rattle.state.proofs.Laws.Soundness.{of-sound}
-use Rattle.record.specs.Record.{Record, frame, wait, AllFit}
-use Rattle.frame.specs.Effect.{changed}
+use Rattle.script.specs.Record.{Record, frame, wait, AllFit}
+use Rattle.effect.specs.Effect.{changed}
 use Rattle.frame.specs.Call.{effectAt, stateAt}
 use Rattle.frame.proofs.Laws.Accepted.{Accepted, accepted-number}
 use Rattle.frame.proofs.Laws.Call.{frame-accepted}
-use Rattle.script.specs.Run.{Device, device, step, run}
-use Rattle.script.proofs.Laws.Run.{Ready, run-ready}
+use Rattle.run.specs.Run.{Device, device, step, run}
+use Rattle.run.proofs.Laws.Run.{Ready, run-ready}
 use Rattle.common.proofs.Laws.Lists.{length-mapi, getD-mapi}
 
 -- a record whose call is accepted

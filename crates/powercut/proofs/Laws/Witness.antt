@@ -10,14 +10,14 @@ use lib.ListN.{length, getD}
 use Rattle.common.specs.Lists.{tab}
 use Rattle.common.proofs.Laws.Lists.{length-tab, getD-tab}
 use Rattle.state.specs.declared.State.{State}
-use Rattle.state.specs.Chip.{isKnown, chipOf}
+use Rattle.chip.specs.Chip.{isKnown, chipOf}
 use Rattle.state.specs.Protection.{firstProtected}
 use Rattle.state.specs.Power.{atRest, newState, stateRefusal, poweredUp, powerUp}
 use Rattle.state.specs.Soundness.{isSound}
-use Rattle.record.specs.Record.{AllBytes, encodeRecord, encode}
-use Rattle.record.proofs.Laws.Records.{all-bytes}
-use Rattle.script.specs.Run.{Device, device, run}
-use Rattle.steps.specs.Region.{within, wantedAt, changes, rises, anyOf}
+use Rattle.script.specs.Record.{AllBytes, encodeRecord, encode}
+use Rattle.script.proofs.Laws.Records.{all-bytes}
+use Rattle.run.specs.Run.{Device, device, run}
+use Rattle.region.specs.Region.{within, wantedAt, changes, rises, anyOf}
 use Rattle.plan.specs.Plan.{stepOneNeeded, planRecords}
 use Rattle.plan.specs.Refusals.{planRefusal}
 use Rattle.powercut.specs.PowerCut.{CutShort, between, PowerCutSafe}

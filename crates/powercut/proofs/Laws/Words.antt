@@ -18,12 +18,12 @@ use Rattle.state.specs.declared.State.{State}
 use Rattle.state.specs.State.{dataOf}
 use Rattle.state.proofs.Laws.Protection.{first-border}
 use Rattle.command.specs.declared.Command.the-variants.{WriteEnable, WriteDisable, ProgramWord}
-use Rattle.command.specs.Registers.{stateAfter}
-use Rattle.record.specs.Record.{Record, wait}
-use Rattle.frame.specs.declared.effect.Effect.the-variants.{Program}
-use Rattle.frame.specs.Effect.{touches, changed}
-use Rattle.frame.proofs.Laws.Effect.{within-yes}
-use Rattle.steps.specs.Region.{addressBytes}
+use Rattle.registers.specs.Registers.{stateAfter}
+use Rattle.script.specs.Record.{Record, wait}
+use Rattle.effect.specs.declared.Effect.the-variants.{Program}
+use Rattle.effect.specs.Effect.{touches, changed}
+use Rattle.effect.proofs.Laws.Effect.{within-yes}
+use Rattle.region.specs.Region.{addressBytes}
 use Rattle.words.specs.Words.{wordBytes, wordChanges, wordsStep}
 use Rattle.words.specs.Walk.{wordRecords, words}
 use Rattle.words.proofs.Laws.Runs.{words-are-runs}

@@ -8,7 +8,7 @@ use native.Mathlib.Omega.{arith}
 use Rattle.common.specs.Lists.{tab}
 use Rattle.state.specs.declared.State.{State}
 use Rattle.state.specs.State.{dataOf}
-use Rattle.state.proofs.Laws.Chip.{regular}
+use Rattle.chip.proofs.Laws.Chip.{regular}
 use Rattle.command.specs.declared.Command.{Command}
 use Rattle.command.specs.declared.Command.the-variants.{
   Ignored,
@@ -27,7 +27,7 @@ use Rattle.command.specs.declared.Command.the-variants.{
   ProgramWord,
   Sleep,
 }
-use Rattle.command.specs.Output.{since, shownAt}
+use Rattle.output.specs.Output.{since, shownAt}
 
 pub shown-by-memory : (s : State) (c : Command) (m n : ℕ → ℕ) → ((k : ℕ) → k < dataOf s .size → m k ≡ n k) → (i : ℕ) → shownAt s c m i ≡ shownAt s c n i
 unfolding shownAt

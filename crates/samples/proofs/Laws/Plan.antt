@@ -5,11 +5,11 @@ use mathlib.Core.List.{List}
 use Prim.Native.Nat.{ℕ, _<_}
 use native.Mathlib.Omega.{arith}
 use lib.ListN.{length, getD}
-use Rattle.state.specs.Chip.{chipOf, isKnown}
+use Rattle.chip.specs.Chip.{chipOf, isKnown}
 use Rattle.state.specs.Protection.{firstProtected}
 use Rattle.state.specs.Soundness.{isSound}
-use Rattle.record.specs.Record.{encodeRecord, encode, framesIn, microsecondsIn}
-use Rattle.steps.specs.Region.{within, wantedAt, changes, rises, anyOf}
+use Rattle.script.specs.Record.{encodeRecord, encode, framesIn, microsecondsIn}
+use Rattle.region.specs.Region.{within, wantedAt, changes, rises, anyOf}
 use Rattle.words.specs.Words.{changingWords, joined, runsOf, furtherRecords, runRecords, runsRecords, wordsStep}
 use Rattle.plan.specs.Plan.{stepOneNeeded, programStep, planRecords}
 use Rattle.plan.specs.Refusals.{planRefusal}

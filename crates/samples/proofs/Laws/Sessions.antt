@@ -13,7 +13,7 @@ use Rattle.common.proofs.Laws.Booleans.{and-l, and-r}
 use Rattle.common.proofs.Laws.Lists.{length-mapi, getD-mapi}
 use Rattle.state.specs.declared.State.{State}
 use Rattle.state.specs.declared.Answer.{Answer}
-use Rattle.state.specs.Chip.{chipOf, isKnown}
+use Rattle.chip.specs.Chip.{chipOf, isKnown}
 use Rattle.state.specs.State.{dataOf}
 use Rattle.state.specs.Status.{statusOf}
 use Rattle.state.specs.Protection.{firstProtected}
@@ -21,11 +21,11 @@ use Rattle.state.specs.Soundness.{isSound}
 use Rattle.state.specs.Power.{newState, newChip}
 use Rattle.state.specs.Time.{cycleEnded, timePassed, passTime}
 use Rattle.state.proofs.Laws.Answer.{answer-sound}
-use Rattle.opcode.specs.Instructions.{kindOf}
+use Rattle.chip.specs.Instructions.{kindOf}
 use Rattle.command.specs.Command.{address, writable, byKind, inAai, commandOf}
-use Rattle.command.specs.Registers.{stateAfter}
-use Rattle.command.specs.Output.{memory, shownAt}
-use Rattle.frame.specs.Effect.{pageEffect, touches, struck, changed}
+use Rattle.registers.specs.Registers.{stateAfter}
+use Rattle.output.specs.Output.{memory, shownAt}
+use Rattle.effect.specs.Effect.{pageEffect, touches, struck, changed}
 use Rattle.frame.specs.Call.{frameNumber, effectAt, stateAt, frameAnswer, frameArray, frameOutput, FrameRun}
 use Rattle.frame.proofs.Laws.Accepted.{number-accepted}
 use Rattle.frame.proofs.Laws.Call.{frame-accepted}

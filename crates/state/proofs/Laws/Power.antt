@@ -7,11 +7,11 @@ use native.Mathlib.Omega.{arith}
 use Rattle.common.proofs.Laws.Choice.{cond-elim}
 use Rattle.state.specs.declared.State.{State}
 use Rattle.state.specs.declared.Answer.{Answer}
-use Rattle.state.specs.Chip.{isKnown, chipOf}
+use Rattle.chip.specs.Chip.{isKnown, chipOf}
 use Rattle.state.specs.State.{dataOf}
 use Rattle.state.specs.Soundness.{isSound, Sound}
 use Rattle.state.specs.Power.{atRest, newState, newChip, poweredUp, powerUp}
-use Rattle.state.proofs.Laws.Chip.{regular, known-5}
+use Rattle.chip.proofs.Laws.Chip.{regular, known-5}
 use Rattle.state.proofs.Laws.Soundness.{sound-of, of-sound}
 
 -- a chip with nothing going on

@@ -11,10 +11,10 @@ use lib.Dec.{eqb}
 use lib.ListN.{getD, List·getD-eq-default}
 use Rattle.common.proofs.Laws.Choice.{cond-elim}
 use Rattle.state.specs.declared.State.{State}
-use Rattle.state.specs.declared.chip.Chip.{Chip}
+use Rattle.chip.specs.declared.Chip.{Chip}
 use Rattle.state.specs.State.{dataOf}
 use Rattle.state.specs.Protection.{firstProtectedByLevel, firstProtected}
-use Rattle.state.proofs.Laws.Chip.{regular}
+use Rattle.chip.proofs.Laws.Chip.{regular}
 
 pub record Border (size n : ℕ) : Type 0 where
   pub in-size : n ≤ size

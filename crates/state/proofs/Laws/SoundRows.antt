@@ -6,7 +6,7 @@ use mathlib.Core.List.{List, [], _∷_}
 use borrow.Author.Tests.{not-true}
 use Rattle.common.proofs.Laws.Booleans.{and-l, and-r}
 use Rattle.state.specs.declared.State.{State}
-use Rattle.state.specs.Chip.{chipOf, isKnown}
+use Rattle.chip.specs.Chip.{chipOf, isKnown}
 use Rattle.state.specs.Protection.{firstProtected}
 use Rattle.state.specs.Soundness.{isSound}
 use Rattle.state.specs.SoundRows.{onlyFails, allClauses, Row, RowHolds, rows, reached}

@@ -10,7 +10,7 @@ use borrow.Author.Tests.{leb-true, ltb-true, eqb-true, ltb-false, le-leb, lt-ltb
 use Rattle.common.proofs.Laws.Booleans.{and-l, and-r, and-i, not-i, or-imp, imp-or, implies-elim, implies-i}
 use Rattle.common.proofs.Laws.Pairs.{_▹_}
 use Rattle.state.specs.declared.State.{State}
-use Rattle.state.specs.Chip.{isKnown}
+use Rattle.chip.specs.Chip.{isKnown}
 use Rattle.state.specs.State.{dataOf}
 use Rattle.state.specs.Protection.{firstProtected}
 use Rattle.state.specs.Soundness.{allFrom, allOf, implies, isBusy, registerClauses, aaiClauses, isSound, Busy, Running, Sound}

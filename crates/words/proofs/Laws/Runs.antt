@@ -8,7 +8,7 @@ use native.Mathlib.Omega.{arith}
 use lib.Dec.{eqb}
 use borrow.Author.Tests.{eq-eqb, ne-eqb}
 use Rattle.common.proofs.Laws.Choice.{cases}
-use Rattle.record.specs.Record.{Record, frame}
+use Rattle.script.specs.Record.{Record, frame}
 use Rattle.words.specs.Words.{wordChanges, changingWords, Run, run, joined, runsOf, furtherRecords, runRecords, runsRecords, wordsStep}
 use Rattle.words.specs.Walk.{wordRecords, words}
 

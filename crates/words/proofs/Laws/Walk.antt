@@ -6,9 +6,9 @@ use mathlib.Core.List.{_++_}
 use Prim.Native.Nat.{ℕ, suc, _+_, _-_, _*_, _/_, _%_, _≤_, _<_}
 use native.Mathlib.Omega.{arith}
 use mir.Val.{boolByte}
-use Rattle.record.specs.Record.{encode}
-use Rattle.record.proofs.Laws.Records.{encode-append}
-use Rattle.steps.proofs.Laws.Flags.{flag-is}
+use Rattle.script.specs.Record.{encode}
+use Rattle.script.proofs.Laws.Records.{encode-append}
+use Rattle.common.proofs.Laws.Flags.{flag-is}
 use Rattle.words.specs.Words.{wordChanges, wordsStep, wordsIn}
 use Rattle.words.specs.Walk.{wordRecords, words, wordCount, runCount}
 use Rattle.words.proofs.Laws.Runs.{words-are-runs}

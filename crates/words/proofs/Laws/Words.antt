@@ -11,10 +11,10 @@ use lib.ListN.{length}
 use Rattle.common.proofs.Laws.Choice.{cases}
 use Rattle.common.proofs.Laws.Booleans.{or-none-l, or-none-r}
 use Rattle.common.proofs.Laws.Lists.{split}
-use Rattle.record.specs.Record.{AllFit, scriptLength, framesIn, microsecondsIn}
-use Rattle.record.proofs.Laws.Records.{script-length-append, frames-append, microseconds-append, all-fit-append}
-use Rattle.state.specs.Status.{bit}
-use Rattle.steps.specs.Measure.{measureOf}
+use Rattle.script.specs.Record.{AllFit, scriptLength, framesIn, microsecondsIn}
+use Rattle.script.proofs.Laws.Records.{script-length-append, frames-append, microseconds-append, all-fit-append}
+use Rattle.common.specs.Bits.{bit}
+use Rattle.script.specs.Measure.{measureOf}
 use Rattle.words.specs.Words.{wordChanges, wordsStep}
 use Rattle.words.specs.Walk.{wordRecords, words, wordCount, runCount}
 use Rattle.words.proofs.Laws.Runs.{words-are-runs}

@@ -6,7 +6,7 @@ use Prim.Native.Nat.{_-_, _*_, _/_}
 use native.Mathlib.Omega.{arith}
 use lib.ListN.{length}
 use borrow.Author.Needs.{needs}
-use Rattle.steps.specs.Region.{changes}
+use Rattle.region.specs.Region.{changes}
 use Rattle.words.specs.Words.{wordsIn}
 use Rattle.words.specs.Walk.{wordCount, runCount}
 use Rattle.words.proofs.Laws.Words.{words-step-measure}

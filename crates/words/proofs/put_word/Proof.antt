@@ -3,10 +3,10 @@
 use mathlib.Core.Bool.{true, false}
 use native.Mathlib.Omega.{arith}
 use borrow.Author.Needs.{needs}
-use Rattle.record.specs.Record.{encode}
-use Rattle.steps.specs.Region.{wantedAt}
-use Rattle.buffer.proofs.Laws.Buffer.{Whole, left-start, put-none}
-use Rattle.steps.proofs.Laws.Records.{record-room, record-turn, records-done}
+use Rattle.script.specs.Record.{encode}
+use Rattle.region.specs.Region.{wantedAt}
+use Rattle.common.proofs.Laws.Buffer.{Whole, left-start, put-none}
+use Rattle.script.proofs.Laws.Writer.{record-room, record-turn, records-done}
 use Rattle.words.specs.Walk.{wordRecords}
 use Rattle.words.proofs.put_word.Statement.{statement}
 use Rattle.words.proofs.put_word.Tie as tie

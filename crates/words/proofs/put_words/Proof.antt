@@ -4,9 +4,9 @@ use mathlib.Core.Path.{_≡_, _∙_}
 use mathlib.Core.Bool.{false}
 use Prim.Native.Nat.{_+_, _-_, _*_, _/_, _%_, _≤_}
 use native.Mathlib.Omega.{arith}
-use Rattle.record.specs.Record.{encode}
-use Rattle.steps.specs.Region.{wantedAt, changes}
-use Rattle.buffer.proofs.Laws.Buffer.{Left, left-start, left-room, left-turn, left-fits, left-last}
+use Rattle.script.specs.Record.{encode}
+use Rattle.region.specs.Region.{wantedAt, changes}
+use Rattle.common.proofs.Laws.Buffer.{Left, left-start, left-room, left-turn, left-fits, left-last}
 use Rattle.words.specs.Walk.{wordRecords, words}
 use Rattle.words.proofs.Laws.Walk.{wordsLeft, words-start, words-turn, words-end}
 use Rattle.words.proofs.put_words.Statement.{statement}

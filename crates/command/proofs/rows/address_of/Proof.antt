@@ -3,7 +3,7 @@
 use mathlib.Core.Path.{refl}
 use native.Mathlib.Omega.{arith}
 use native.Mathlib.Nat.{mod-lt, lt-of-lt-of-le}
-use Rattle.state.proofs.Laws.Chip.{Regular, regular}
+use Rattle.chip.proofs.Laws.Chip.{Regular, regular}
 use Rattle.command.specs.Command.{address}
 use borrow.Author.Needs.{needs}
 use Rattle.command.proofs.rows.address_of.Statement.{statement}

@@ -4,7 +4,7 @@ use mathlib.Core.Path.{refl}
 use native.Mathlib.Omega.{arith}
 use borrow.Author.Tests.{eq-eqb, ne-eqb}
 use Rattle.common.proofs.Laws.Choice.{yes, no}
-use Rattle.state.proofs.Laws.Chip.{Regular, regular}
+use Rattle.chip.proofs.Laws.Chip.{Regular, regular}
 use borrow.Author.Needs.{needs}
 use Rattle.command.proofs.rows.erase_chip.Statement.{statement}
 use Rattle.command.proofs.rows.erase_chip.Tie as tie

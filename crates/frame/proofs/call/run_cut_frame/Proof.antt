@@ -5,11 +5,12 @@ use Prim.Native.Nat.{ℕ}
 use native.Mathlib.Omega.{arith}
 use lib.ListN.{length}
 use Rattle.state.specs.State.{dataOf}
-use Rattle.state.proofs.Laws.Chip.{regular}
+use Rattle.chip.proofs.Laws.Chip.{regular}
 use Rattle.command.specs.Command.{commandOf}
 use Rattle.command.specs.Fits.{Fits}
 use Rattle.command.proofs.Laws.Fits.{fits, next-low}
-use Rattle.frame.specs.Effect.{effectOf, spanOf, maskLength}
+use Rattle.effect.specs.Effect.{spanOf, maskLength}
+use Rattle.frame.specs.Effect.{effectOf}
 use Rattle.frame.specs.Call.{frameNumber, effectAt, cutNumber}
 use Rattle.frame.proofs.Laws.Accepted.{Accepted, number-accepted, cut-number-refused, cut-number-masked, cut-number-unmasked}
 use Rattle.frame.proofs.Laws.Inside.{Inside, effect-inside}

@@ -6,13 +6,14 @@ use native.Mathlib.Omega.{arith}
 use lib.ListN.{length}
 use Rattle.common.specs.Lists.{tab}
 use Rattle.state.specs.State.{dataOf}
-use Rattle.state.proofs.Laws.Chip.{regular}
+use Rattle.chip.proofs.Laws.Chip.{regular}
 use Rattle.command.specs.Command.{commandOf}
 use Rattle.command.specs.Fits.{Fits}
-use Rattle.command.specs.Output.{memory, shownAt}
+use Rattle.output.specs.Output.{memory, shownAt}
 use Rattle.command.proofs.Laws.Fits.{fits, next-low}
 use Rattle.command.proofs.Laws.Carries.{carries}
-use Rattle.frame.specs.Effect.{effectOf, spanOf, Supplied}
+use Rattle.effect.specs.Effect.{spanOf, Supplied}
+use Rattle.frame.specs.Effect.{effectOf}
 use Rattle.frame.specs.Call.{frameNumber}
 use Rattle.frame.proofs.Laws.Accepted.{Accepted, number-accepted}
 use Rattle.frame.proofs.Laws.Supplied.{effect-supplied}

@@ -6,11 +6,11 @@ use native.Mathlib.Omega.{arith}
 use types.Run.{OneOf, miss}
 use denote.Enum.Declared.{tagOf}
 use lib.ListN.{length}
-use Rattle.record.proofs.reader.Found.{the-type}
-use Rattle.record.specs.declared.reader.Found.{Found}
-use Rattle.record.specs.declared.reader.Found.the-variants.{Frame, Wait, End, Refused}
-use Rattle.record.specs.Record.{wait}
-use Rattle.record.proofs.Laws.Answers.{Stands, FrameTold, EndTold, Told, answer-told}
+use Rattle.script.proofs.reader.Found.{the-type}
+use Rattle.script.specs.declared.reader.Found.{Found}
+use Rattle.script.specs.declared.reader.Found.the-variants.{Frame, Wait, End, Refused}
+use Rattle.script.specs.Record.{wait}
+use Rattle.script.proofs.Laws.Answers.{Stands, FrameTold, EndTold, Told, answer-told}
 use Rattle.listing.proofs.Laws.Frames.{Shown, show-start, frame-inside, frame-room, show-frame, show-wait, show-end, show-checked}
 use borrow.Author.Needs.{needs}
 use Rattle.listing.proofs.frames.put_frame_lines.Statement.{statement}

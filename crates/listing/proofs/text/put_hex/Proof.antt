@@ -3,7 +3,7 @@
 use Prim.Native.Nat.{_-_, _≤_}
 use native.Mathlib.Omega.{arith}
 use lib.ListN.{length, drop}
-use Rattle.buffer.proofs.Laws.Buffer.{Left, left-start}
+use Rattle.common.proofs.Laws.Buffer.{Left, left-start}
 use Rattle.listing.specs.Text.{hex}
 use Rattle.listing.proofs.Laws.Text.{pair-room, pair-turn, pair-last}
 use Rattle.listing.proofs.text.put_hex.Statement.{statement}

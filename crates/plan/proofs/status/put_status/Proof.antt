@@ -3,9 +3,9 @@
 use native.Mathlib.Omega.{arith}
 use borrow.Author.Tests.{not-true, not-false}
 use borrow.Author.Needs.{needs}
-use Rattle.record.specs.Record.{encode}
-use Rattle.buffer.proofs.Laws.Buffer.{Whole, left-start, put-none}
-use Rattle.steps.proofs.Laws.Records.{record-room, record-turn, records-done}
+use Rattle.script.specs.Record.{encode}
+use Rattle.common.proofs.Laws.Buffer.{Whole, left-start, put-none}
+use Rattle.script.proofs.Laws.Writer.{record-room, record-turn, records-done}
 use Rattle.plan.specs.Plan.{statusRecords}
 use Rattle.plan.proofs.status.put_status.Statement.{statement}
 use Rattle.plan.proofs.status.put_status.Tie as tie

@@ -3,7 +3,7 @@
 use mathlib.Core.Path.{refl}
 use native.Mathlib.Omega.{arith}
 use borrow.Author.Needs.{needs}
-use Rattle.steps.proofs.Laws.Flags.{flag-times, bit-le}
+use Rattle.common.proofs.Laws.Flags.{flag-times, bit-le}
 use Rattle.plan.specs.Plan.{statusByte}
 use Rattle.plan.proofs.status.status_byte.Statement.{statement}
 use Rattle.plan.proofs.status.status_byte.Tie as tie

@@ -5,8 +5,8 @@ use Prim.Native.Nat.{_+_, _-_, _≤_}
 use native.Mathlib.Nat.{add-zero, sub-zero}
 use native.Mathlib.Omega.{arith}
 use lib.ListN.{length}
-use Rattle.steps.specs.Region.{anyOf}
-use Rattle.steps.proofs.Laws.Region.{any-found, any-turn, any-end}
+use Rattle.region.specs.Region.{anyOf}
+use Rattle.region.proofs.Laws.Region.{any-found, any-turn, any-end}
 use Rattle.plan.specs.Plan.{isProtectedChange, stepOneNeeded}
 use Rattle.plan.proofs.Laws.Plan.{protected-at}
 use Rattle.plan.proofs.status.step_one_needed.Statement.{statement}

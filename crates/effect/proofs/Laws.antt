@@ -1,0 +1,5 @@
+pub mod Effect
+pub mod Turn
+pub mod Mask
+pub mod Page
+pub mod Cut

@@ -1,0 +1,88 @@
+-- An effect byte by byte: all touched addresses lie in its span, and what `changed` and `cut` leave at a touched address and at another one.
+-- Assumes nothing.
+use mathlib.Core.Path.{_≡_, refl}
+use mathlib.Core.Bool.{true, false, false≢true}
+use mathlib.Core.List.{List}
+use Prim.Native.Nat.{ℕ, _+_, _/_, _≤_, _<_}
+use native.Mathlib.Omega.{arith}
+use lib.Dec.{leb, ltb, eqb}
+use lib.ListN.{getD}
+use borrow.Author.Tests.{leb-true, ltb-true, eqb-true, le-leb, lt-leb, lt-ltb, le-ltb}
+use Rattle.common.proofs.Laws.Booleans.{and-l, and-r, and-i}
+use Rattle.common.proofs.Laws.Choice.{cases}
+use Rattle.common.proofs.Laws.Lists.{count-none}
+use Rattle.effect.specs.declared.Effect.{Effect}
+use Rattle.effect.specs.declared.Effect.the-variants.{Keep, Fill, Program, Round}
+use Rattle.effect.specs.Effect.{within, turn, touches, struck, changed, spanOf}
+use Rattle.effect.specs.Cut.{mixed, maskPlace, cut}
+
+-- ---- the span
+
+module _ (a n k : ℕ) where
+  pub within-bounds : within a n k ≡ true → (a ≤ k) × (k < a + n)
+  within-bounds e = (leb-true a k (and-l (leb a k) (ltb k (a + n)) e), ltb-true k (a + n) (and-r (leb a k) (ltb k (a + n)) e))
+
+  pub within-yes : a ≤ k → k < a + n → within a n k ≡ true
+  within-yes h l = and-i (le-leb a k h) (lt-ltb k (a + n) l)
+
+  pub within-below : k < a → within a n k ≡ false
+  within-below h = rw (lt-leb a k h) refl
+
+  pub within-above : a + n ≤ k → within a n k ≡ false
+  within-above h = rw (le-leb a k (omega arith), le-ltb k (a + n) h) refl
+
+pub round-bounds : (a n k : ℕ) → touches (Round a n) k ≡ true → (k / 256 ≡ a / 256) × (turn a k < n)
+unfolding touches
+round-bounds a n k t =
+    let page = eqb (k / 256) (a / 256) in
+    (eqb-true (k / 256) (a / 256) (and-l page (ltb (turn a k) n) t), ltb-true (turn a k) n (and-r page (ltb (turn a k) n) t))
+
+pub touched-in-span : (e : Effect) (k : ℕ) → touches e k ≡ true → (spanOf e .lo ≤ k) × (k < spanOf e .hi)
+unfolding touches
+touched-in-span Keep k t = absurd (false≢true t)
+touched-in-span (Fill a n) k t = within-bounds a n k t
+touched-in-span (Program a n i) k t = within-bounds a n k t
+touched-in-span (Round a n) k t = let page = round-bounds a n k t .0 in (omega arith, omega arith)
+
+module _ (e : Effect) (k : ℕ) where
+  pub untouched-below : k < spanOf e .lo → touches e k ≡ false
+  untouched-below h = cases (touches e k) (λ t. absurd (omega (arith, touched-in-span e k t .0))) (λ t. t)
+
+  pub untouched-above : spanOf e .hi ≤ k → touches e k ≡ false
+  untouched-above h = cases (touches e k) (λ t. absurd (omega (arith, touched-in-span e k t .1))) (λ t. t)
+
+-- no mask byte is used below the span
+pub mask-place-start : (e : Effect) → maskPlace e (spanOf e .lo) ≡ 0
+mask-place-start e = count-none (touches e) (spanOf e .lo) (untouched-below e)
+
+-- ---- the byte x at address k
+
+module _ (e : Effect) (f : List ℕ) (k x : ℕ) where
+  pub changed-touched : touches e k ≡ true → changed e f k x ≡ struck e f k x
+  unfolding changed
+  changed-touched t = rw t refl
+
+  pub changed-other : touches e k ≡ false → changed e f k x ≡ x
+  unfolding changed
+  changed-other t = rw t refl
+
+  pub changed-below : k < spanOf e .lo → changed e f k x ≡ x
+  changed-below h = changed-other (untouched-below e k h)
+
+  pub changed-above : spanOf e .hi ≤ k → changed e f k x ≡ x
+  changed-above h = changed-other (untouched-above e k h)
+
+  module _ (mask : List ℕ) where
+    pub cut-touched : touches e k ≡ true → cut e f mask k x ≡ mixed (getD mask (maskPlace e k) 0) x (struck e f k x)
+    unfolding cut
+    cut-touched t = rw t refl
+
+    pub cut-other : touches e k ≡ false → cut e f mask k x ≡ x
+    unfolding cut
+    cut-other t = rw t refl
+
+    pub cut-below : k < spanOf e .lo → cut e f mask k x ≡ x
+    cut-below h = cut-other (untouched-below e k h)
+
+    pub cut-above : spanOf e .hi ≤ k → cut e f mask k x ≡ x
+    cut-above h = cut-other (untouched-above e k h)

@@ -1,0 +1,103 @@
+-- `frame::change::change` meets its contract: each arm's run is its effect, address by address.
+-- Assumes nothing.
+use mathlib.Core.Path.{refl, sym}
+use native.Mathlib.Omega.{arith}
+use Rattle.common.proofs.Laws.Lists.{mapi-id}
+use Rattle.effect.specs.Effect.{touches, struck, changed}
+use borrow.Author.Needs.{needs}
+use Rattle.effect.proofs.change.change.Statement.{statement}
+use Rattle.effect.proofs.change.change.Tie as tie
+
+enum-told : tie.Need-enum-told
+enum-told c = search needs
+
+enum-known-e : tie.Need-enum-known-e
+enum-known-e c = search needs
+
+cast-lo : tie.Need-cast-lo
+cast-lo c = search needs
+
+cast-fill-run : tie.Need-cast-fill-run
+cast-fill-run c = search needs
+
+add-fill-run : tie.Need-add-fill-run
+add-fill-run c = search needs
+
+fill-run-requires : tie.Need-fill-run-requires
+fill-run-requires c κs = let h = rw (c .before .before .e .given .1) at (c .before .before .before .before .before .before .pre) in (omega arith, h .1)
+
+enum-known-e-2 : tie.Need-enum-known-e-2
+enum-known-e-2 c = search needs
+
+cast-lo-2 : tie.Need-cast-lo-2
+cast-lo-2 c = search needs
+
+cast-and-run : tie.Need-cast-and-run
+cast-and-run c = search needs
+
+add-and-run : tie.Need-add-and-run
+add-and-run c = search needs
+
+cast-and-run-2 : tie.Need-cast-and-run-2
+cast-and-run-2 c = search needs
+
+and-run-requires : tie.Need-and-run-requires
+and-run-requires c κs =
+    let h = rw (c .before .before .e2 .given .1) at (c .before .before .before .before .before .before .pre) in
+    (omega arith, h .1, omega (arith, h .3))
+
+enum-told-2 : tie.Need-enum-told-2
+enum-told-2 c = search needs
+
+change-each-requires : tie.Need-change-each-requires
+change-each-requires c κs = search needs
+
+returns : tie.Need-returns
+unfolding changed touches struck
+returns c = rw (c .enum-told .given .1) (sym (mapi-id _ _ (λ k b. refl)))
+
+same-length : tie.Need-same-length
+same-length c = search needs
+
+returns-2 : tie.Need-returns-2
+unfolding changed touches struck
+returns-2 c = rw (c .before .before .before .before .before .e .given .1) (c .before .before .fill-run .ensures)
+
+same-length-2 : tie.Need-same-length-2
+same-length-2 c = search needs
+
+returns-3 : tie.Need-returns-3
+unfolding changed touches struck
+returns-3 c = rw (c .before .before .before .before .before .e2 .given .1) (c .before .before .and-run .ensures)
+
+same-length-3 : tie.Need-same-length-3
+same-length-3 c = search needs
+
+returns-4 : tie.Need-returns-4
+returns-4 c = search needs
+
+pub change-spec : {M : Type 1} → statement M
+change-spec =
+    tie.close
+    (tie.spec
+    enum-told
+    enum-known-e
+    cast-lo
+    cast-fill-run
+    add-fill-run
+    fill-run-requires
+    enum-known-e-2
+    cast-lo-2
+    cast-and-run
+    add-and-run
+    cast-and-run-2
+    and-run-requires
+    enum-told-2
+    change-each-requires
+    returns
+    same-length
+    returns-2
+    same-length-2
+    returns-3
+    same-length-3
+    returns-4)

@@ -1,0 +1,41 @@
+-- `output::emit` meets its contract: a read is shown in runs, every other command byte by byte.
+-- Assumes nothing.
+use native.Mathlib.Omega.{arith}
+use Rattle.output.specs.Output.{shownAt}
+use borrow.Author.Needs.{needs}
+use Rattle.output.proofs.emit.Statement.{statement}
+use Rattle.output.proofs.emit.Tie as tie
+
+enum-known-c : tie.Need-enum-known-c
+enum-known-c c = search needs
+
+show-array-requires : tie.Need-show-array-requires
+show-array-requires c κs = let h = rw (c .before .before .c .given .1) at (c .before .before .before .before .before .before .pre .0) in (h, c .before .before .before .before .before .before .pre .1, c .before .before .before .before .before .before .pre .2)
+
+show-each-requires : tie.Need-show-each-requires
+show-each-requires c κs = search needs
+
+same-length : tie.Need-same-length
+same-length c = search needs
+
+returns : tie.Need-returns
+unfolding shownAt
+returns c = rw (c .before .before .before .before .before .c .given .1) (c .before .before .show-array .ensures)
+
+same-length-2 : tie.Need-same-length-2
+same-length-2 c = search needs
+
+returns-2 : tie.Need-returns-2
+returns-2 c = search needs
+
+pub emit-spec : {M : Type 1} → statement M
+emit-spec =
+    tie.close
+    (tie.spec
+    enum-known-c
+    show-array-requires
+    show-each-requires
+    same-length
+    returns
+    same-length-2
+    returns-2)

@@ -1,7 +1,0 @@
-pub mod Records
-pub mod Front
-pub mod Places
-pub mod Decode
-pub mod Reader
-pub mod Answers
-pub mod Survey

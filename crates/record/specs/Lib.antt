@@ -1,4 +1,0 @@
-pub mod Record
-pub mod Decode
-pub mod Reader
-pub mod Survey

@@ -1,0 +1,5 @@
+pub mod Chip
+pub mod Run
+pub mod Accepted
+pub mod Script
+pub mod Walk

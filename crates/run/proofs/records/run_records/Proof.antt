@@ -1,0 +1,139 @@
+-- `script::run::run_records` meets its contract: at the loop's head the records before `at` are run, and running those that are left makes up the whole.
+-- The measure is what is left of the script. Assumes nothing.
+use mathlib.Core.List.{List, [], _∷_}
+use Prim.Native.Nat.{ℕ, _-_}
+use native.Mathlib.Omega.{arith}
+use types.Run.{OneOf, miss}
+use denote.Enum.Declared.{tagOf}
+use lib.ListN.{length}
+use Rattle.script.proofs.reader.Found.{the-type}
+use Rattle.script.specs.declared.reader.Found.{Found}
+use Rattle.script.specs.declared.reader.Found.the-variants.{Frame, Wait, End, Refused}
+use Rattle.script.specs.Record.{wait}
+use Rattle.script.proofs.Laws.Records.{all-bytes}
+use Rattle.script.proofs.Laws.Answers.{Stands, FrameTold, EndTold, Told, answer-told}
+use Rattle.run.specs.Run.{device}
+use Rattle.run.proofs.Laws.Accepted.{number-accepted}
+use Rattle.run.proofs.Laws.Walk.{Walked, walk-start, frame-room, walk-frame, walk-wait, walk-end, walk-checked}
+use borrow.Author.Needs.{needs}
+use Rattle.run.proofs.records.run_records.Statement.{statement}
+use Rattle.run.proofs.records.run_records.Tie as tie
+
+abbrev Inv-loop : tie.InvT-loop
+Inv-loop wp array₀ script output₀ state₀ at₀ laid₀ array output state at laid =
+    Walked wp script (device state₀ array₀) (length output₀) (device state array) at laid output
+
+abbrev μ-loop : tie.MeasureT-loop
+μ-loop wp array₀ script output₀ state₀ at₀ laid₀ array output state at laid = length script - at
+
+abbrev Script : tie.At-loop Inv-loop μ-loop → List ℕ
+Script l = l .before .before .before .before .args .script .now
+
+-- what the answers tell
+framed : (c : tie.After-known-told Inv-loop μ-loop)
+    → FrameTold (Script (c .before .before .before .before)) (c .before .before .before .before .loop .at)
+    (c .before .found .given .0 .0) (c .before .found .given .0 .1 .0) (c .before .found .given .0 .1 .1 .0)
+framed c = rw (c .before .found .given .1) at (answer-told _ _ _ (c .before .before .before .record-at .ensures .0))
+
+waited : (c : tie.After-known-told2 Inv-loop μ-loop)
+    → Stands (Script (c .before .before .before .before)) (c .before .before .before .before .loop .at)
+    (wait (c .before .found2 .given .0 .0)) (c .before .found2 .given .0 .1 .0)
+waited c = rw (c .before .found2 .given .1) at (answer-told _ _ _ (c .before .before .before .record-at .ensures .0))
+
+-- there is no other answer than the end
+ended : (c : tie.At-match-keys3 Inv-loop μ-loop) (found : Found) → OneOf (2 ∷ 3 ∷ []) (tagOf the-type found)
+    → Told (Script (c .before .before)) (c .before .before .loop .at) found → EndTold (Script (c .before .before)) (c .before .before .loop .at)
+ended c (Frame start n next) h t = absurd (miss (2 ∷ 3 ∷ []) 0 tt h)
+ended c (Wait microseconds next) h t = absurd (miss (2 ∷ 3 ∷ []) 1 tt h)
+ended c (End next) h t = t .1
+ended c (Refused number next) h t =
+    let w = c .before .before .loop .inv in absurd (walk-checked w (t .1 (w .short) (w .inside)))
+
+loop-holds : tie.Need-loop-holds Inv-loop μ-loop
+loop-holds c =
+    let a = c .before .before .before .args in
+    let bytes = all-bytes (a .script .now) (λ k b. omega (arith, c .before .shared-slice-known .given k)) in
+    walk-start (a .wp) (a .s) (a .array .now) (a .script .now) (a .output .now) bytes (number-accepted _ _ _ _ (c .before .before .before .pre))
+
+record-at-requires : tie.Need-record-at-requires Inv-loop μ-loop
+record-at-requires c κs = search needs
+
+enum-known-found : tie.Need-enum-known-found Inv-loop μ-loop
+enum-known-found c = search needs
+
+part-at-requires : tie.Need-part-at-requires Inv-loop μ-loop
+part-at-requires c κs = let t = framed c in omega (arith, t .start-is, t .long, t .stands .next-is, t .stands .inside)
+
+add-end : tie.Need-add-end Inv-loop μ-loop
+add-end c = let h = frame-room (c .before .before .before .before .before .loop .inv) (framed (c .before)) in search needs
+
+sub-run-frame : tie.Need-sub-run-frame Inv-loop μ-loop
+sub-run-frame c = search needs
+
+part-run-frame-start : tie.Need-part-run-frame-start Inv-loop μ-loop
+part-run-frame-start c = search needs
+
+part-run-frame-end : tie.Need-part-run-frame-end Inv-loop μ-loop
+part-run-frame-end c = frame-room (c .before .before .before .before .before .before .loop .inv) (framed (c .before .before))
+
+run-frame-requires : tie.Need-run-frame-requires Inv-loop μ-loop
+run-frame-requires c κs = search needs
+
+loop-less : tie.Need-loop-less Inv-loop μ-loop
+loop-less c =
+    let s = framed (c .before .before .before .before .before .before .before .before .before) .stands in omega (arith, s .next-is, s .least, s .inside)
+
+loop-again : tie.Need-loop-again Inv-loop μ-loop
+loop-again c =
+    let p = c .before .before .before .before .before .before .before .before .before in
+    walk-frame (p .before .before .before .before .loop .inv) (framed p) (c .before .before .before .before .before .before .before .before .part-at .ensures)
+    (c .before .before .before .before .before .run-frame .ensures)
+
+enum-known-found-2 : tie.Need-enum-known-found-2 Inv-loop μ-loop
+enum-known-found-2 c = search needs
+
+pass-time-requires : tie.Need-pass-time-requires Inv-loop μ-loop
+pass-time-requires c κs = search needs
+
+loop-less-2 : tie.Need-loop-less-2 Inv-loop μ-loop
+loop-less-2 c = let s = waited (c .before .before) in omega (arith, s .next-is, s .inside)
+
+loop-again-2 : tie.Need-loop-again-2 Inv-loop μ-loop
+loop-again-2 c = walk-wait (c .before .before .before .before .before .before .loop .inv) (waited (c .before .before)) (c .before .pass-time .ensures)
+
+same-length : tie.Need-same-length Inv-loop μ-loop
+same-length c = c .before .before .loop .inv .sized
+
+same-length-2 : tie.Need-same-length-2 Inv-loop μ-loop
+same-length-2 c = c .before .before .loop .inv .long
+
+returns : tie.Need-returns Inv-loop μ-loop
+returns c =
+    let t = ended c (c .before .record-at .result) (c .match .keys3) (answer-told _ _ _ (c .before .record-at .ensures .0)) in
+    let e = walk-end (c .before .before .loop .inv) t in
+    record { device-is = e .0; output-is = e .1 }
+
+pub run-records-spec : {M : Type 1} → statement M
+run-records-spec =
+    tie.close
+    (tie.spec
+    Inv-loop
+    μ-loop
+    loop-holds
+    record-at-requires
+    enum-known-found
+    part-at-requires
+    add-end
+    sub-run-frame
+    part-run-frame-start
+    part-run-frame-end
+    run-frame-requires
+    loop-less
+    loop-again
+    enum-known-found-2
+    pass-time-requires
+    loop-less-2
+    loop-again-2
+    same-length
+    same-length-2
+    returns)

@@ -1,0 +1,144 @@
+-- What an answer of the reader tells of the script, and which answer a script gives whose records are known.
+-- Assumes nothing.
+use mathlib.Core.Path.{_≡_, refl, sym, ap, _∙_}
+use mathlib.Core.List.{List, [], _∷_}
+use Prim.Native.Nat.{ℕ, _+_, _≤_, _<_}
+use native.Mathlib.Omega.{arith}
+use lib.Dec.{ltb}
+use lib.ListN.{length, take, drop, length-drop}
+use lib.Seq.{drop-drop}
+use borrow.Author.Tests.{ltb-true, ltb-false}
+use Rattle.common.proofs.Laws.Choice.{cond-elim}
+use Rattle.script.specs.Record.{Record, frame, wait, longestScript, recordLength}
+use Rattle.script.specs.Decode.{Fault, faultNumber, Front, end, item, malformed, front, records, badAt, followed, decode}
+use Rattle.script.specs.Reader.{numberOf, nextOf, partOf, answer, recordAt, framePart}
+use Rattle.script.specs.declared.reader.Found.{Found}
+use Rattle.script.specs.declared.reader.Found.the-variants.{Frame, Wait, End, Refused}
+use Rattle.script.proofs.Laws.Front.{front-seen, front-item}
+use Rattle.script.proofs.Laws.Decode.{decode-end, decode-item, decode-malformed, decoded-none, decoded-first}
+use Rattle.script.proofs.Laws.Places.{front-at-end}
+use Rattle.script.proofs.Laws.Reader.{record-at-inside}
+
+-- the record r stands at an offset, and next is the offset behind it
+pub record Stands (script : List ℕ) (offset : ℕ) (r : Record) (next : ℕ) : Type 0 where
+  pub here : front (drop offset script) ≡ item r (drop next script)
+  pub decoded : decode (drop offset script) ≡ followed r (decode (drop next script))
+  pub next-is : next ≡ offset + recordLength r
+  pub least : 5 ≤ recordLength r
+  pub inside : next ≤ length script
+
+pub stands : (script : List ℕ) (offset : ℕ) {r : Record} {rest : List ℕ} → front (drop offset script) ≡ item r rest
+    → Stands script offset r (offset + recordLength r)
+stands script offset {r} {rest} e =
+    let i = front-item (drop offset script) e in
+    let behind : rest ≡ drop (offset + recordLength r) script = i .rest-is ∙ drop-drop (recordLength r) offset script in
+    let here : front (drop offset script) ≡ item r (drop (offset + recordLength r) script) = rw behind at e in
+    record {
+      here = here;
+      decoded = decode-item (drop offset script) here;
+      next-is = refl;
+      least = i .least;
+      inside = omega (arith, i .length-is, i .least, length-drop offset script);
+    }
+
+-- the bytes of a frame that stands at an offset
+pub frame-bytes : (script : List ℕ) (offset : ℕ) {bytes rest : List ℕ} → front (drop offset script) ≡ item (frame bytes) rest
+    → take (length bytes) (drop (offset + 4) script) ≡ bytes
+frame-bytes script offset {bytes} e =
+    rw (← drop-drop 4 offset script) (sym (front-item (drop offset script) e .body))
+
+-- a frame is answered: where it starts and how long it is
+pub record FrameTold (script : List ℕ) (offset start n next : ℕ) : Type 0 where
+  pub start-is : start ≡ offset + 4
+  pub long : length (take n (drop start script)) ≡ n
+  pub stands : Stands script offset (frame (take n (drop start script))) next
+
+pub record EndTold (script : List ℕ) (offset : ℕ) : Type 0 where
+  pub at-end : offset ≡ length script
+  pub decoded : decode (drop offset script) ≡ records []
+
+pub record RefusalTold (script : List ℕ) (offset number : ℕ) : Type 0 where
+  pub fault : Fault
+  pub number-is : number ≡ faultNumber fault
+  pub decoded : decode (drop offset script) ≡ badAt fault 0
+
+-- what each answer tells of the script
+abbrev pub Told : List ℕ → ℕ → Found → Type 0
+Told script offset (Frame start n next) = FrameTold script offset start n next
+Told script offset (Wait microseconds next) = Stands script offset (wait microseconds) next
+Told script offset (End next) = (next ≡ offset) × EndTold script offset
+Told script offset (Refused number next) = (next ≡ offset) × (length script ≤ longestScript → offset ≤ length script → RefusalTold script offset number)
+
+pub record-at-told : (script : List ℕ) (offset : ℕ) → Told script offset (recordAt script offset)
+unfolding recordAt
+record-at-told script offset =
+    cond-elim (Told script offset) (ltb longestScript (length script))
+    (λ long. (refl, λ short inside. absurd (omega (arith, ltb-true longestScript (length script) long))))
+    (λ _. cond-elim (Told script offset) (ltb (length script) offset)
+    (λ past. (refl, λ short inside. absurd (omega (arith, ltb-true (length script) offset past))))
+    (λ inside. by-front (ltb-false (length script) offset inside) (front (drop offset script)) refl))
+  where
+    by-front : offset ≤ length script → (f : Front) → front (drop offset script) ≡ f → Told script offset (answer offset f)
+    by-front inside end e =
+        let none : drop offset script ≡ [] = rw e at (front-seen (drop offset script)) in (
+          refl,
+          record { at-end = omega (arith, ap length none, length-drop offset script); decoded = decode-end (drop offset script) e },
+        )
+    by-front inside (item (frame bytes) rest) e =
+        let is : take (length bytes) (drop (offset + 4) script) ≡ bytes = frame-bytes script offset e in
+        record { start-is = refl; long = ap length is; stands = rw is (stands script offset e) }
+    by-front inside (item (wait microseconds) rest) e = stands script offset e
+    by-front inside (malformed fault) e =
+        (refl, λ short within. record { fault = fault; number-is = refl; decoded = decode-malformed (drop offset script) e })
+
+pub answer-told : (script : List ℕ) (offset : ℕ) (found : Found) → found ≡ recordAt script offset → Told script offset found
+answer-told script offset found e = rw e (record-at-told script offset)
+
+-- a frame's part is the frame
+pub frame-part-is-frame : (script : List ℕ) (offset : ℕ) {bytes rest : List ℕ} → length script ≤ longestScript
+    → front (drop offset script) ≡ item (frame bytes) rest → framePart script offset ≡ bytes
+unfolding framePart
+frame-part-is-frame script offset short e =
+    let s = stands script offset e in
+    ap (partOf script) (record-at-inside script offset short (omega (arith, s .inside, s .least)) ∙ ap (answer offset) e)
+    ∙ frame-bytes script offset e
+
+-- "its refusal returns an empty part and the given offset"
+abbrev pub GivesBack : List ℕ → ℕ → Found → Type 0
+GivesBack script offset found = 0 < numberOf found → (partOf script found ≡ []) × (nextOf found ≡ offset)
+
+pub refusal-gives-back : (script : List ℕ) (offset : ℕ) → GivesBack script offset (recordAt script offset)
+unfolding recordAt
+refusal-gives-back script offset =
+    cond-elim (GivesBack script offset) (ltb longestScript (length script)) (λ _ _. (refl, refl))
+    (λ _. cond-elim (GivesBack script offset) (ltb (length script) offset) (λ _ _. (refl, refl)) (λ _. by-front (front (drop offset script))))
+  where
+    by-front : (f : Front) → GivesBack script offset (answer offset f)
+    by-front end h = (refl, refl)
+    by-front (item (frame bytes) rest) h = absurd (omega arith)
+    by-front (item (wait microseconds) rest) h = absurd (omega arith)
+    by-front (malformed fault) h = (refl, refl)
+
+-- the next record, where the records from an offset on are known
+pub record NextRead (script : List ℕ) (offset : ℕ) (r : Record) (rs : List Record) : Type 0 where
+  pub found : recordAt script offset ≡ answer offset (item r (drop (offset + recordLength r) script))
+  pub others : decode (drop (offset + recordLength r) script) ≡ records rs
+  pub stands : Stands script offset r (offset + recordLength r)
+
+pub next-read : (script : List ℕ) (offset : ℕ) {r : Record} {rs : List Record} → length script ≤ longestScript
+    → decode (drop offset script) ≡ records (r ∷ rs) → NextRead script offset r rs
+next-read script offset {r} {rs} short e =
+    let h = decoded-first (drop offset script) e in
+    let s = stands script offset (h .first) in
+    record {
+      found = record-at-inside script offset short (omega (arith, s .inside, s .least)) ∙ ap (answer offset) (s .here);
+      others = rw (drop-drop (recordLength r) offset script) at (h .others);
+      stands = s;
+    }
+
+pub next-read-end : (script : List ℕ) (offset : ℕ) → length script ≤ longestScript → offset ≤ length script
+    → decode (drop offset script) ≡ records [] → (recordAt script offset ≡ End offset) × (offset ≡ length script)
+next-read-end script offset short inside e =
+    let none : drop offset script ≡ [] = decoded-none (drop offset script) e in
+    let at-end : offset ≡ length script = omega (arith, ap length none, length-drop offset script) in
+    (record-at-inside script offset short inside ∙ ap (answer offset) (front-at-end script offset (omega arith)), at-end)

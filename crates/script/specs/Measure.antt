@@ -1,0 +1,7 @@
+-- What is reported of a plan (01, "Scripts and plans"): "length, frames and total microseconds, each that of the script".
+use mathlib.Core.List.{List}
+use Rattle.script.specs.Record.{Record, scriptLength, framesIn, microsecondsIn}
+use Rattle.script.specs.declared.measure.Measure.{Measure}
+
+unfoldable pub measureOf : List Record → Measure
+measureOf records = record { length = scriptLength records; frames = framesIn records; microseconds = microsecondsIn records }

@@ -1,3 +1,0 @@
-pub mod Flags
-pub mod Records
-pub mod Region

@@ -1,3 +1,0 @@
-pub mod Region
-pub mod Measure
-pub mod Head
