@@ -12,14 +12,14 @@ f25l008a = record {
   capacity = 0x14;
   signature = 0x13;  -- Table 5, RES; Table 10
   preamble = 1;
-  blocktime = 1000000;  -- typical, as all times
-  chiptime = 8000000;
+  «block_time» = 1000000;  -- typical, as all times
+  «chip_time» = 8000000;
   words = true;  -- Table 5, AAI
   ewsr = true;  -- Table 5, EWSR
   sleeps = false;
-  topbottom = false;  -- Table 4, bit 5 reserved
+  «top_bottom» = false;  -- Table 4, bit 5 reserved
   graded = true;  -- Table 2
-  newlevel = 7;  -- Table 4, note 3
+  «new_level» = 7;  -- Table 4, note 3
   keeps = false;  -- Table 4, note 2
 }
 
@@ -31,14 +31,14 @@ f25l05pa = record {
   capacity = 0x10;
   signature = 0x05;  -- Tables 6 and 8
   preamble = 4;  -- Table 5, RES
-  blocktime = 750000;  -- typical, as all times
-  chiptime = 1000000;
+  «block_time» = 750000;  -- typical, as all times
+  «chip_time» = 1000000;
   words = false;
   ewsr = false;
   sleeps = true;  -- Table 5, DP
-  topbottom = true;  -- Table 2, bit 5
+  «top_bottom» = true;  -- Table 2, bit 5
   graded = false;  -- Table 3
-  newlevel = 0;  -- Table 2, note 3
+  «new_level» = 0;  -- Table 2, note 3
   keeps = true;  -- Table 2, note 2
 }
 

@@ -17,8 +17,8 @@ pub struct Chip {
     pub signature: u8,
     pub preamble: u8,
     // microseconds of a block erase and of a chip erase; nothing takes longer than the latter
-    pub blocktime: u32,
-    pub chiptime: u32,
+    pub block_time: u32,
+    pub chip_time: u32,
     // AD programs words (AAI)
     pub words: bool,
     // 50 arms a status write without WEL
@@ -26,11 +26,11 @@ pub struct Chip {
     // B9 powers it down
     pub sleeps: bool,
     // the status register has TB
-    pub topbottom: bool,
+    pub top_bottom: bool,
     // protected from some address up, by level; else all or nothing
     pub graded: bool,
     // BP of a new chip
-    pub newlevel: u8,
+    pub new_level: u8,
     // BP, TB and BPL are kept without power
     pub keeps: bool,
 }
@@ -46,14 +46,14 @@ pub fn chip_of(number: u8) -> Chip
             capacity: 0x14,
             signature: 0x13,
             preamble: 1,
-            blocktime: 1000000,
-            chiptime: 8000000,
+            block_time: 1000000,
+            chip_time: 8000000,
             words: true,
             ewsr: true,
             sleeps: false,
-            topbottom: false,
+            top_bottom: false,
             graded: true,
-            newlevel: 7,
+            new_level: 7,
             keeps: false,
         }
     } else {
@@ -63,14 +63,14 @@ pub fn chip_of(number: u8) -> Chip
             capacity: 0x10,
             signature: 0x05,
             preamble: 4,
-            blocktime: 750000,
-            chiptime: 1000000,
+            block_time: 750000,
+            chip_time: 1000000,
             words: false,
             ewsr: false,
             sleeps: true,
-            topbottom: true,
+            top_bottom: true,
             graded: false,
-            newlevel: 0,
+            new_level: 0,
             keeps: true,
         }
     }

@@ -73,7 +73,7 @@ erase s start count time = when (writable s (start + count)) (Erase start count 
 
 -- the whole array: it is writable where nothing is protected, on the 008A by BP 000
 abbrev pub eraseChip : State → List ℕ → Command
-eraseChip s f = when (long f 1) (erase s 0 (dataOf s .size) (dataOf s .chiptime))
+eraseChip s f = when (long f 1) (erase s 0 (dataOf s .size) (dataOf s .«chip_time»))
 
 abbrev pub programByte : State → List ℕ → Command
 programByte s f = when (long f 5) (when (writable s (address s f + 1)) (ProgramByte (address s f)))
@@ -98,7 +98,7 @@ rows s wp f =
     (read, ReadArray a 4)  -- 03
     ∷ (fastRead, ReadArray a 5)  -- 0B
     ∷ (sectorErase, when (long f 4) (erase s sector 4096 90000))  -- 20
-    ∷ (blockErase, when (long f 4) (erase s block 65536 (dataOf s .blocktime)))  -- D8
+    ∷ (blockErase, when (long f 4) (erase s block 65536 (dataOf s .«block_time»)))  -- D8
     ∷ (chipErase, eraseChip s f)  -- 60, C7
     ∷ (byteProgram, programByte s f)  -- 02 (008A)
     ∷ (pageProgram, programPage s f)  -- 02 (05PA)
@@ -133,5 +133,5 @@ unfoldable pub commandOf : State → Bool → List ℕ → Command
 commandOf s wp f =
     cond (ltb 0 (s .left)) (look ((0x05, ReadStatus) ∷ []) (getD f 0 0))
     (cond (s .aai) (inAai s f (getD f 0 0))
-    (cond (s .down) (look ((0xab, ReadSignature) ∷ []) (getD f 0 0))
+    (cond (s .«power_down») (look ((0xab, ReadSignature) ∷ []) (getD f 0 0))
     (byKind s wp f (kindOf (s .chip) (getD f 0 0)))))

@@ -30,7 +30,7 @@ use Rattle.command.specs.declared.Command.the-variants.{
 pub record Resting (s : State) : Type 0 where
   pub still : s .left ≡ 0
   pub single : s .aai ≡ false
-  pub awake : s .down ≡ false
+  pub awake : s .«power_down» ≡ false
 
 -- WEL 1, and the target ends at or below the first protected address
 pub record Open (s : State) (end : ℕ) : Type 0 where
@@ -40,7 +40,7 @@ pub record Open (s : State) (end : ℕ) : Type 0 where
 pub record Words (s : State) (address : ℕ) : Type 0 where
   pub worded : dataOf s .words ≡ true
   pub still : s .left ≡ 0
-  pub awake : s .down ≡ false
+  pub awake : s .«power_down» ≡ false
   pub even : address % 2 ≡ 0
 
 abbrev pub Fits : State → Command → Type 0
@@ -54,7 +54,7 @@ Fits s WriteEnable = Resting s
 Fits s WriteDisable = s .left ≡ 0
 Fits s Arm = Resting s × (dataOf s .ewsr ≡ true)
 Fits s (WriteStatus b) = Resting s
-Fits s (Erase a n t) = Resting s × (Open s (a + n) × (t ≤ dataOf s .chiptime))
+Fits s (Erase a n t) = Resting s × (Open s (a + n) × (t ≤ dataOf s .«chip_time»))
 Fits s (ProgramByte a) = Resting s × Open s (a + 1)
 Fits s (ProgramPage a n) = Resting s × Open s (a + 1)
 Fits s (ProgramWord a i) = Words s a × Open s (a + 2)

@@ -6,6 +6,7 @@ ghost use mathlib.Core.Bool.{cond, true, false, not, _||_};
 ghost use Prim.Native.Nat.{_+_, _*_, _/_, _%_, _<_, _≤_};
 ghost use lib.Dec.{eqb, leb};
 ghost use lib.ListN.{getD, length};
+ghost use Rattle.common.specs.Limits.{longestFrame};
 ghost use Rattle.state.specs.State.{dataOf};
 ghost use Rattle.command.specs.Command.{when, long, address, writable, erase, eraseChip, programByte, programPage, writeStatus};
 
@@ -89,7 +90,7 @@ pub fn erase_sector(s: State, input: &[u8]) -> Command
 }
 
 pub fn erase_block(s: State, input: &[u8]) -> Command
-    ensures { λ r. ⌜ r ≡ when (long (now (input .entry)) 4) (erase s (address s (now (input .entry)) / 65536 * 65536) 65536 (dataOf s .blocktime)) ⌝ }
+    ensures { λ r. ⌜ r ≡ when (long (now (input .entry)) 4) (erase s (address s (now (input .entry)) / 65536 * 65536) 65536 (dataOf s .«block_time»)) ⌝ }
 {
     if input.len() != 4 {
         return Command::Ignored;
@@ -98,7 +99,7 @@ pub fn erase_block(s: State, input: &[u8]) -> Command
         s,
         address_of(s, input) / 65536 * 65536,
         65536,
-        chip::chip_of(s.chip).blocktime,
+        chip::chip_of(s.chip).block_time,
     )
 }
 
@@ -109,7 +110,7 @@ pub fn erase_chip(s: State, input: &[u8]) -> Command
         return Command::Ignored;
     }
     let chip = chip::chip_of(s.chip);
-    erase_of(s, 0, chip.size, chip.chiptime)
+    erase_of(s, 0, chip.size, chip.chip_time)
 }
 
 pub fn program_byte(s: State, input: &[u8]) -> Command
@@ -126,7 +127,7 @@ pub fn program_byte(s: State, input: &[u8]) -> Command
 }
 
 pub fn program_page(s: State, input: &[u8]) -> Command
-    requires { ⌜ length (now input) ≤ 4101 ⌝ }
+    requires { ⌜ length (now input) ≤ longestFrame ⌝ }
     ensures { λ r. ⌜ r ≡ programPage s (now (input .entry)) ⌝ }
 {
     if input.len() < 5 {

@@ -7,11 +7,12 @@ ghost use mathlib.Core.Path.{_≡_};
 ghost use mathlib.Core.List.{[], _∷_};
 ghost use Prim.Native.Nat.{_<_, _≤_};
 ghost use lib.ListN.{getD, length};
+ghost use Rattle.common.specs.Limits.{longestFrame};
 ghost use Rattle.command.specs.Command.{look, byKind, inAai, commandOf};
 
 // At rest: neither busy nor in AAI nor in power-down.
 fn by_kind(s: State, wp: bool, kind: u8, input: &[u8]) -> Command
-    requires { ⌜ length (now input) ≤ 4101 ⌝ }
+    requires { ⌜ length (now input) ≤ longestFrame ⌝ }
     ensures { λ r. ⌜ r ≡ byKind s wp (now (input .entry)) kind ⌝ }
 {
     match kind {
@@ -71,7 +72,7 @@ fn asleep(op: u8) -> Command
 
 // The frame understood.
 pub fn command_of(s: State, wp: bool, input: &[u8]) -> Command
-    requires { ⌜ (s .next < 2097152) × (length (now input) ≤ 4101) ⌝ }
+    requires { ⌜ (s .next < 2097152) × (length (now input) ≤ longestFrame) ⌝ }
     ensures { λ r. ⌜ r ≡ commandOf s wp (now (input .entry)) ⌝ }
 {
     let op = common::byte_at(input, 0);
@@ -81,7 +82,7 @@ pub fn command_of(s: State, wp: bool, input: &[u8]) -> Command
     if s.aai {
         return in_aai(s, op, input);
     }
-    if s.down {
+    if s.power_down {
         return asleep(op);
     }
     by_kind(s, wp, chip::kind_of(s.chip, op), input)

@@ -1,8 +1,9 @@
 pub mod Choice
 pub mod Booleans
-pub mod Lists
-pub mod Refusals
 pub mod Pairs
+pub mod Lists
+pub mod Places
+pub mod Refusals
 pub mod Bits
 pub mod Flags
 pub mod Buffer

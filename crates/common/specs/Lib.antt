@@ -1,4 +1,6 @@
 pub mod Lists
-pub mod Refusals
+pub mod Limits
+pub mod Numbers
 pub mod Bits
+pub mod Refusals
 pub mod Buffer

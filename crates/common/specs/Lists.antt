@@ -26,3 +26,12 @@ onRun lo hi f k x = cond (leb lo k && ltb k hi) (f k x) x
 unfoldable pub countBelow : (ℕ → Bool) → ℕ → ℕ
 countBelow test zero = 0
 countBelow test (suc k) = countBelow test k + cond (test k) 1 0
+
+-- k is one of the n places from a on
+unfoldable pub within : ℕ → ℕ → ℕ → Bool
+within a n k = leb a k && ltb k (a + n)
+
+-- it holds of each element
+abbrev pub Each : {A : Type 0} → (A → Type 0) → List A → Type 0
+Each P [] = Unit {0}
+Each P (x ∷ xs) = P x × Each P xs

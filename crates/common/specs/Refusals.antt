@@ -4,6 +4,64 @@ use mathlib.Core.List.{List, [], _∷_}
 use Prim.Native.Nat.{ℕ}
 use lib.Dec.{eqb}
 
+-- ---- the numbers, in the order of the table
+
+-- "state not sound, or chip number unknown"
+abbrev pub stateNotSound : ℕ
+stateNotSound = 1
+
+-- "array length isn't the chip's size"
+abbrev pub wrongArray : ℕ
+wrongArray = 2
+
+-- "frame empty or over 4,101"
+abbrev pub wrongFrame : ℕ
+wrongFrame = 3
+
+-- "output length isn't the frame's (a script's: the sum)"
+abbrev pub wrongOutput : ℕ
+wrongOutput = 4
+
+-- "mask length wrong"
+abbrev pub wrongMask : ℕ
+wrongMask = 5
+
+-- "over 4,096 wanted bytes, or start plus length above the size"
+abbrev pub wrongRegion : ℕ
+wrongRegion = 6
+
+-- "not at rest: busy, AAI or power-down"
+abbrev pub notAtRest : ℕ
+notAtRest = 7
+
+-- "a wanted 1 where the array has 0"
+abbrev pub wantedRises : ℕ
+wantedRises = 8
+
+-- "step 1 needed, BPL 1, WP low"
+abbrev pub statusLocked : ℕ
+statusLocked = 9
+
+-- "script longer than the buffer"
+abbrev pub bufferTooShort : ℕ
+bufferTooShort = 10
+
+-- "script over 32,768"
+abbrev pub scriptTooLong : ℕ
+scriptTooLong = 11
+
+-- "some record malformed or cut short": its mark is unknown, its frame's length is wrong, or it has too few bytes
+abbrev pub unknownMark : ℕ
+unknownMark = 12
+
+abbrev pub wrongLength : ℕ
+wrongLength = 12
+
+abbrev pub cutShort : ℕ
+cutShort = 12
+
+-- ---- what a call makes of them
+
 -- a call's refusals, each number with its condition, in the order checked: the number of the first that holds, 0 where none does
 abbrev pub firstOf : List (ℕ × Bool) → ℕ
 firstOf [] = 0

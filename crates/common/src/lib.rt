@@ -1,10 +1,14 @@
 // What every layer uses: bytes of a slice, read without a fault at any index, and runs of them.
 pub mod buffer;
+pub mod limits;
+pub mod refusals;
 pub mod runs;
 
 ghost use mathlib.Core.Path.{_≡_};
-ghost use Prim.Native.Nat.{_-_, _<_};
+ghost use Prim.Native.Nat.{_-_, _<_, _≤_, min, max};
 ghost use lib.ListN.{getD};
+ghost use Rattle.common.specs.Bits.{bit};
+ghost use Rattle.common.specs.Lists.{within};
 
 // The byte at an index, 0 past the end.
 pub fn byte_at(bytes: &[u8], i: usize) -> u8
@@ -24,4 +28,30 @@ pub fn less(a: usize, b: usize) -> usize
     ensures { λ r. ⌜ r ≡ a - b ⌝ }
 {
     if b < a { a - b } else { 0 }
+}
+
+pub fn smaller(a: usize, b: usize) -> usize
+    ensures { λ r. ⌜ r ≡ min a b ⌝ }
+{
+    if a < b { a } else { b }
+}
+
+pub fn larger(a: usize, b: usize) -> usize
+    ensures { λ r. ⌜ r ≡ max a b ⌝ }
+{
+    if a < b { b } else { a }
+}
+
+// A bit of the given value where it is set, else 0.
+pub fn bit_of(set: bool, value: u8) -> u8
+    ensures { λ r. ⌜ (r ≡ bit set value) × (r ≤ value) ⌝ }
+{
+    if set { value } else { 0 }
+}
+
+// Whether place k is one of the `count` from `start` on.
+pub fn is_within(start: u32, count: u32, k: usize) -> bool
+    ensures { λ r. ⌜ r ≡ within start count k ⌝ }
+{
+    (start as usize <= k) & (k < start as usize + count as usize)
 }

@@ -5,6 +5,7 @@ use Prim.Native.Nat.{ℕ, _+_, _-_, _*_, _/_, _%_, _≤_}
 use lib.Bits.{bitAnd}
 use lib.Dec.{leb, ltb, eqb}
 use lib.ListN.{getD, length}
+use Rattle.common.specs.Lists.{within}
 use Rattle.effect.specs.declared.Span.{Span}
 use Rattle.effect.specs.declared.Effect.{Effect}
 use Rattle.effect.specs.declared.Effect.the-variants.{Keep, Fill, Program, Round}
@@ -12,10 +13,6 @@ use Rattle.effect.specs.declared.Effect.the-variants.{Keep, Fill, Progra
 -- a page program that stays below its page's end goes straight up, another goes round the page
 unfoldable pub pageEffect : ℕ → ℕ → Effect
 pageEffect a n = cond (leb n (256 - a % 256)) (Program a n 4) (Round a n)
-
--- address k is one of the n from a up
-abbrev pub within : ℕ → ℕ → ℕ → Bool
-within a n k = leb a k && ltb k (a + n)
 
 -- how many bytes on from address a address k lies, round the page
 abbrev pub turn : ℕ → ℕ → ℕ

@@ -3,7 +3,7 @@ pub mod change;
 
 ghost use mathlib.Core.Path.{_≡_};
 ghost use Prim.Native.Nat.{_<_};
-ghost use Rattle.effect.specs.Effect.{pageEffect, spanOf, within, turn, lastFor, touches, struck, maskLength};
+ghost use Rattle.effect.specs.Effect.{pageEffect, spanOf, turn, lastFor, touches, struck, maskLength};
 
 pub enum Effect {
     Keep,
@@ -67,24 +67,18 @@ fn turn_of(address: u32, k: usize) -> usize
     (k + (256 - address as usize % 256)) % 256
 }
 
-fn is_within(start: u32, count: u32, k: usize) -> bool
-    ensures { λ r. ⌜ r ≡ within start count k ⌝ }
-{
-    (start as usize <= k) & (k < start as usize + count as usize)
-}
-
 pub fn is_touched(e: Effect, k: usize) -> bool
     requires { ⌜ k < 4294967296 ⌝ }
     ensures { λ r. ⌜ r ≡ touches e k ⌝ }
 {
     match e {
         Effect::Keep => false,
-        Effect::Fill { start, count } => is_within(start, count, k),
+        Effect::Fill { start, count } => common::is_within(start, count, k),
         Effect::Program {
             start,
             count,
             from: _,
-        } => is_within(start, count, k),
+        } => common::is_within(start, count, k),
         Effect::Round { address, count } => {
             (k / 256 == address as usize / 256) & (turn_of(address, k) < count as usize)
         }

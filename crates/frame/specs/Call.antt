@@ -5,6 +5,7 @@ use mathlib.Core.List.{List, [], _∷_, _++_}
 use Prim.Native.Nat.{ℕ}
 use lib.Dec.{ltb, eqb}
 use lib.ListN.{length}
+use Rattle.common.specs.Limits.{longestFrame}
 use Rattle.common.specs.Lists.{mapi, tab}
 use Rattle.common.specs.Refusals.{firstOf, accepted}
 use Rattle.state.specs.declared.State.{State}
@@ -26,7 +27,7 @@ abbrev pub frameRefusals : State → ℕ → ℕ → ℕ → List (ℕ × Bool)
 frameRefusals s size n out =
     (1, not (isSound s))
     ∷ (2, not (eqb size (dataOf s .size)))
-    ∷ (3, eqb n 0 || ltb 4101 n)
+    ∷ (3, eqb n 0 || ltb longestFrame n)
     ∷ (4, not (eqb out n))
     ∷ []
 

@@ -1,5 +1,6 @@
 // The calls: run a frame, run an interrupted frame.
 use crate::effect_of;
+use common::limits::LONGEST_FRAME;
 use state::Answer;
 use state::State;
 ghost use mathlib.Core.Path.{_≡_};
@@ -16,7 +17,7 @@ fn frame_number(s: State, size: usize, count: usize, output: usize) -> u32
     if size != chip::chip_of(s.chip).size as usize {
         return 2;
     }
-    if (count == 0) | (4101 < count) {
+    if (count == 0) | (LONGEST_FRAME < count) {
         return 3;
     }
     if output != count {

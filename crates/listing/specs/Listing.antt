@@ -6,7 +6,8 @@ use lib.Dec.{ltb}
 use lib.ListN.{length, replicate, take, drop}
 use Rattle.state.specs.Power.{newChip}
 use Rattle.state.specs.Status.{statusOf}
-use Rattle.script.specs.Record.{Record, frame, wait, longestScript}
+use Rattle.script.specs.Record.{Record, frame, wait}
+use Rattle.common.specs.Limits.{longestScript}
 use Rattle.script.specs.Decode.{faultNumber, Decoded, records, badAt, decode}
 use Rattle.run.specs.Run.{Device, device, step, outputOf, run}
 use Rattle.listing.specs.Text.{hex, decimal, line}

@@ -5,7 +5,7 @@ use script::reader::record_at;
 ghost use mathlib.Core.Path.{_≡_};
 ghost use Prim.Native.Nat.{_*_, _≤_};
 ghost use lib.ListN.{length};
-ghost use Rattle.script.specs.Record.{longestScript};
+ghost use Rattle.common.specs.Limits.{longestScript};
 ghost use Rattle.script.specs.Survey.{surveyOf};
 ghost use Rattle.run.specs.Script.{recordsOf};
 ghost use Rattle.common.specs.Buffer.{Put};

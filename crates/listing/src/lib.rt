@@ -2,7 +2,7 @@
 mod frames;
 mod text;
 
-use script::reader::LONGEST_SCRIPT;
+use common::limits::LONGEST_SCRIPT;
 ghost use mathlib.Core.Path.{_≡_};
 ghost use Prim.Native.Nat.{_≤_};
 ghost use lib.ListN.{length};

@@ -6,7 +6,8 @@ use lib.Dec.{ltb}
 use lib.ListN.{length}
 use Rattle.common.specs.Lists.{tab}
 use Rattle.script.specs.Record.{Record, frame, wait}
-use Rattle.region.specs.Region.{addressBytes, wantedAt, changes}
+use Rattle.region.specs.Region.{wantedAt, changes}
+use Rattle.common.specs.Numbers.{addressBytes}
 
 -- of n addresses from a on: how many come before the first that changes
 unfoldable pub beforeFirst : (ℕ → Bool) → ℕ → ℕ → ℕ

@@ -1,7 +1,7 @@
 // Step 3: of each page that changes, the bytes from the first changing one to the last.
 use script::measure::Measure;
 ghost use mathlib.Core.Path.{_≡_};
-ghost use Prim.Native.Nat.{_+_, _-_, _≤_, min, max};
+ghost use Prim.Native.Nat.{_+_, _-_, _≤_};
 ghost use lib.ListN.{length};
 ghost use Rattle.script.specs.Record.{encode};
 ghost use Rattle.region.specs.Region.{Inside, wantedAt, changes};
@@ -14,18 +14,6 @@ ghost use Rattle.pages.specs.Parts.{First, Behind, PagePart, PartIn};
 pub struct Part {
     pub from: usize,
     pub to: usize,
-}
-
-fn smaller(a: usize, b: usize) -> usize
-    ensures { λ r. ⌜ r ≡ min a b ⌝ }
-{
-    if a < b { a } else { b }
-}
-
-fn larger(a: usize, b: usize) -> usize
-    ensures { λ r. ⌜ r ≡ max a b ⌝ }
-{
-    if a < b { b } else { a }
 }
 
 // The first changing address of a part, its end where none changes.
@@ -66,8 +54,8 @@ fn page_part(array: &[u8], start: usize, wanted: &[u8], page: usize) -> Part
     requires { ⌜ (start ≤ page + 256) × (page ≤ start + length (now wanted)) ⌝ }
     ensures { λ r. ⌜ PagePart (changes (now (array .entry)) start (now (wanted .entry))) start (now (wanted .entry)) page r ⌝ }
 {
-    let from = larger(page, start);
-    let to = smaller(page + 256, start + wanted.len());
+    let from = common::larger(page, start);
+    let to = common::smaller(page + 256, start + wanted.len());
     let first = first_changing(array, start, wanted, from, to);
     let behind = behind_last(array, start, wanted, first, to);
     Part {

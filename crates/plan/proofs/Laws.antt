@@ -1,4 +1,3 @@
-pub mod Exactly
 pub mod Plan
 pub mod Refusals
 pub mod Update

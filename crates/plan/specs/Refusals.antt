@@ -5,6 +5,7 @@ use mathlib.Core.List.{List, [], _∷_, _++_}
 use Prim.Native.Nat.{ℕ, _+_, _≤_}
 use lib.Dec.{ltb, eqb}
 use lib.ListN.{length}
+use Rattle.common.specs.Limits.{longestWanted}
 use Rattle.common.specs.Refusals.{firstOf}
 use Rattle.script.specs.Record.{encode}
 use Rattle.state.specs.declared.State.{State}
@@ -13,17 +14,13 @@ use Rattle.state.specs.Soundness.{isSound, isBusy}
 use Rattle.region.specs.Region.{anyOf, rises}
 use Rattle.plan.specs.Plan.{stepOneNeeded, planRecords}
 
--- "up to 4,096 wanted bytes"
-abbrev pub longestWanted : ℕ
-longestWanted = 4096
-
 -- those that ask neither for the WP level nor for the buffer
 abbrev pub regionRefusals : State → List ℕ → ℕ → List ℕ → List (ℕ × Bool)
 regionRefusals s array start wanted =
     (1, not (isSound s))  -- "state not sound, or chip number unknown"
     ∷ (2, not (eqb (length array) (dataOf s .size)))  -- "array length isn't the chip's size"
     ∷ (6, ltb longestWanted (length wanted) || ltb (dataOf s .size) (start + length wanted))  -- "over 4,096 wanted bytes, or start plus length above the size"
-    ∷ (7, isBusy s || s .aai || s .down)  -- "not at rest: busy, AAI or power-down"
+    ∷ (7, isBusy s || s .aai || s .«power_down»)  -- "not at rest: busy, AAI or power-down"
     ∷ (8, anyOf (rises array start wanted) (length wanted) start)  -- "a wanted 1 where the array has 0"
     ∷ []
 
@@ -51,7 +48,7 @@ pub record RegionAccepted (s : State) (array : List ℕ) (start : ℕ) (wanted :
   pub fits : start + length wanted ≤ dataOf s .size
   pub ready : s .left ≡ 0
   pub no-aai : s .aai ≡ false
-  pub awake : s .down ≡ false
+  pub awake : s .«power_down» ≡ false
   pub falls : anyOf (rises array start wanted) (length wanted) start ≡ false
 
 pub record Accepted (s : State) (wp : Bool) (array : List ℕ) (start : ℕ) (wanted : List ℕ) (room : ℕ) : Type 0 where

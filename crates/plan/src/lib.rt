@@ -1,6 +1,7 @@
 // The planner: from the bytes wanted in a region of the array to the script that programs them.
 pub mod status; // steps 1 and 4
 
+use common::limits::LONGEST_WANTED;
 use script::measure::Measure;
 use state::State;
 ghost use mathlib.Core.Path.{_≡_};
@@ -14,7 +15,8 @@ ghost use Rattle.region.specs.Region.{Inside};
 ghost use Rattle.script.specs.Measure.{measureOf};
 ghost use Rattle.common.specs.Buffer.{Put};
 ghost use Rattle.plan.specs.Plan.{stepOneNeeded, programStep, planRecords};
-ghost use Rattle.plan.specs.Refusals.{longestWanted, regionRefusals};
+ghost use Rattle.plan.specs.Refusals.{regionRefusals};
+ghost use Rattle.common.specs.Limits.{longestWanted};
 ghost use Rattle.plan.specs.Update.{refusedPlan, PlanUpdated};
 
 // A plan's answer: 0, the given state and what the script in the buffer amounts to; or the refusal's number, the given state and 0.
@@ -46,7 +48,7 @@ fn region_exceeds(size: usize, start: usize, n: usize) -> bool
     if size < start {
         return true;
     }
-    (4096 < n) | (size - start < n)
+    (LONGEST_WANTED < n) | (size - start < n)
 }
 
 // Refusals 1, 2, 6, 7 and 8, in this order; 0 where there is none.
@@ -63,7 +65,7 @@ fn region_refusal(s: State, array: &[u8], start: usize, wanted: &[u8]) -> u32
     if region_exceeds(size, start, wanted.len()) {
         return 6;
     }
-    if (0 < s.left) | s.aai | s.down {
+    if (0 < s.left) | s.aai | s.power_down {
         return 7;
     }
     if region::wants_rise(array, start, wanted) {

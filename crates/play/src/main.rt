@@ -1,8 +1,8 @@
 // Runs a script from standard input on a new, erased F25L05PA and prints what the chip showed (01, program `play`).
+use common::limits::LONGEST_SCRIPT;
 use libc::STDIN_FILENO;
 use libc::STDOUT_FILENO;
 use listing::LONGEST_LISTING;
-use script::reader::LONGEST_SCRIPT;
 ghost use mathlib.Core.Path.{_≡_};
 ghost use lib.ListN.{length};
 

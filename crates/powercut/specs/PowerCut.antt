@@ -5,7 +5,7 @@ use mathlib.Core.List.{List, [], _∷_, _++_}
 use mathlib.Core.Logic.{_⊎_}
 use Prim.Native.Nat.{ℕ, _+_, _-_}
 use lib.ListN.{length, getD}
-use Rattle.common.specs.Lists.{mapi}
+use Rattle.common.specs.Lists.{mapi, within}
 use Rattle.state.specs.declared.State.{State}
 use Rattle.state.specs.State.{withWel, withArmed}
 use Rattle.state.specs.Power.{powerUp}
@@ -16,7 +16,6 @@ use Rattle.common.specs.Bits.{bitAt}
 use Rattle.run.specs.declared.Ran.{Ran}
 use Rattle.run.specs.Run.{Device, device, run}
 use Rattle.run.specs.Script.{recordsOf}
-use Rattle.region.specs.Region.{within}
 use Rattle.plan.specs.declared.Planned.{Planned}
 use Rattle.plan.specs.Plan.{planRecords}
 use Rattle.plan.specs.Refusals.{planRefusal}

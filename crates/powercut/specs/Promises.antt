@@ -11,7 +11,7 @@ use Rattle.state.specs.declared.State.{State}
 use Rattle.state.specs.State.{withWel, withArmed}
 use Rattle.common.specs.Bits.{bitAt}
 use Rattle.run.specs.Run.{Device}
-use Rattle.region.specs.Region.{within}
+use Rattle.common.specs.Lists.{within}
 use Rattle.plan.specs.Refusals.{planRefusal}
 use Rattle.powercut.specs.PowerCut.{updated, Finished, PowerLost}
 

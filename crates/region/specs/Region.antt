@@ -5,20 +5,14 @@ use Prim.Native.Nat.{ℕ, zero, suc, _+_, _-_, _/_, _%_, _≤_}
 use lib.Bits.{bitAnd}
 use lib.Dec.{leb, ltb, eqb}
 use lib.ListN.{length, getD}
+use Rattle.common.specs.Limits.{longestWanted}
+use Rattle.common.specs.Lists.{within}
 
 -- a region as it is accepted (refusals 2 and 6): at most 4,096 bytes, within the array of a chip
 pub record Inside (array : List ℕ) (start : ℕ) (wanted : List ℕ) : Type 0 where
-  pub short : length wanted ≤ 4096
+  pub short : length wanted ≤ longestWanted
   pub fits : start + length wanted ≤ length array
   pub small : length array ≤ 1048576
-
--- "Addresses have three bytes, high byte first"
-abbrev pub addressBytes : ℕ → List ℕ
-addressBytes address = address / 65536 % 256 ∷ address / 256 % 256 ∷ address % 256 ∷ []
-
--- one of n addresses from a on
-unfoldable pub within : ℕ → ℕ → ℕ → Bool
-within a n address = leb a address && ltb address (a + n)
 
 -- the byte that an address is to have: "as wanted, a byte outside the region as FF"
 unfoldable pub wantedAt : ℕ → List ℕ → ℕ → ℕ

@@ -4,7 +4,7 @@ use state::State;
 ghost use mathlib.Core.Path.{_≡_};
 ghost use Prim.Native.Nat.{_<_};
 ghost use mathlib.Core.Bool.{true, false};
-ghost use Rattle.state.specs.State.{withLeft, withWel, withArmed, withDown, withAai};
+ghost use Rattle.state.specs.State.{withLeft, withWel, withArmed, withPowerDown, withAai};
 ghost use Rattle.registers.specs.Registers.{has, withStatus, stateAfter};
 ghost use Rattle.command.specs.Fits.{Fits};
 
@@ -21,7 +21,7 @@ fn with_status(s: State, byte: u8) -> State
 {
     let mut t = s;
     t.bp = byte / 4 % 8;
-    t.tb = chip::chip_of(s.chip).topbottom & has_bit(byte, 32);
+    t.tb = chip::chip_of(s.chip).top_bottom & has_bit(byte, 32);
     t.bpl = has_bit(byte, 128);
     t
 }
@@ -72,11 +72,11 @@ fn with_armed(s: State, armed: bool) -> State
     t
 }
 
-fn with_down(s: State, down: bool) -> State
-    ensures { λ r. ⌜ r ≡ withDown s down ⌝ }
+fn with_power_down(s: State, power_down: bool) -> State
+    ensures { λ r. ⌜ r ≡ withPowerDown s «power_down» ⌝ }
 {
     let mut t = s;
-    t.down = down;
+    t.power_down = power_down;
     t
 }
 
@@ -103,8 +103,8 @@ pub fn state_after(s: State, c: Command) -> State
         Command::ProgramByte { .. } => busy_for(quiet, 7),
         Command::ProgramPage { .. } => busy_for(quiet, 1500),
         Command::ProgramWord { address, .. } => in_aai(quiet, address + 2),
-        Command::Sleep => with_down(quiet, true),
-        Command::ReadSignature => with_down(quiet, false),
+        Command::Sleep => with_power_down(quiet, true),
+        Command::ReadSignature => with_power_down(quiet, false),
         Command::Ignored => quiet,
         Command::ReadStatus => quiet,
         Command::ReadArray { .. } => quiet,

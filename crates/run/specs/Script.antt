@@ -10,7 +10,8 @@ use Rattle.state.specs.declared.State.{State}
 use Rattle.state.specs.State.{dataOf}
 use Rattle.state.specs.Soundness.{isSound}
 use Rattle.script.specs.declared.survey.Survey.{Survey}
-use Rattle.script.specs.Record.{Record, longestScript, framesIn, microsecondsIn, outputLength}
+use Rattle.script.specs.Record.{Record, framesIn, microsecondsIn, outputLength}
+use Rattle.common.specs.Limits.{longestScript}
 use Rattle.script.specs.Decode.{faultNumber, Decoded, records, badAt, decode}
 use Rattle.run.specs.declared.Ran.{Ran}
 use Rattle.run.specs.Run.{device, run, outputs}

@@ -4,7 +4,9 @@ use mathlib.Core.List.{List, [], _∷_}
 use Prim.Native.Nat.{ℕ, zero, suc, _+_}
 use lib.Dec.{eqb, ltb}
 use lib.ListN.{length, take, drop}
-use Rattle.script.specs.Record.{Record, frame, wait, longestFrame, twoBytes, fourBytes, recordLength}
+use Rattle.script.specs.Record.{Record, frame, wait, recordLength}
+use Rattle.common.specs.Numbers.{twoBytes, fourBytes}
+use Rattle.common.specs.Limits.{longestFrame}
 
 -- why a record is "malformed or cut short"
 pub data Fault : Type 0 where

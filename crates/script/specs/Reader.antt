@@ -4,7 +4,9 @@ use mathlib.Core.List.{List, []}
 use Prim.Native.Nat.{ℕ, _+_, _*_}
 use lib.Dec.{ltb}
 use lib.ListN.{length, getD, take, drop}
-use Rattle.script.specs.Record.{Record, frame, wait, longestScript, twoBytes, recordLength}
+use Rattle.script.specs.Record.{Record, frame, wait, recordLength}
+use Rattle.common.specs.Numbers.{twoBytes}
+use Rattle.common.specs.Limits.{longestScript}
 use Rattle.script.specs.Decode.{cutShort, faultNumber, Front, end, item, malformed, front}
 use Rattle.script.specs.declared.reader.Found.{Found}
 use Rattle.script.specs.declared.reader.Found.the-variants.{Frame, Wait, End, Refused}

@@ -2,27 +2,12 @@
 use mathlib.Core.List.{List, [], _∷_, _++_}
 use Prim.Native.Nat.{ℕ, _+_, _*_, _/_, _%_, _≤_, _<_}
 use lib.ListN.{length}
+use Rattle.common.specs.Limits.{longestFrame}
 
 -- "A script is records": a frame with its bytes, or a wait with its microseconds
 pub data Record : Type 0 where
   frame : List ℕ → Record
   wait : ℕ → Record
-
--- a frame has "1 to 4,101" bytes
-abbrev pub longestFrame : ℕ
-longestFrame = 4101
-
--- a script has "at most 32,768 bytes"
-abbrev pub longestScript : ℕ
-longestScript = 32768
-
--- the number of two bytes, "high first"
-abbrev pub twoBytes : ℕ → ℕ → ℕ
-twoBytes high low = high * 256 + low
-
--- the number of four bytes, "high first"
-abbrev pub fourBytes : ℕ → ℕ → ℕ → ℕ → ℕ
-fourBytes a b c d = twoBytes a b * 65536 + twoBytes c d
 
 -- numbers that are bytes
 abbrev pub AllBytes : List ℕ → Type 0

@@ -4,7 +4,8 @@ use mathlib.Core.List.{List}
 use Prim.Native.Nat.{ℕ}
 use lib.Dec.{ltb}
 use lib.ListN.{length}
-use Rattle.script.specs.Record.{longestScript, framesIn, microsecondsIn, outputLength}
+use Rattle.script.specs.Record.{framesIn, microsecondsIn, outputLength}
+use Rattle.common.specs.Limits.{longestScript}
 use Rattle.script.specs.Decode.{faultNumber, Decoded, records, badAt, decode}
 use Rattle.script.specs.declared.survey.Survey.{Survey}
 

@@ -1,25 +1,13 @@
 // The reader: what the record at an offset of a script is.
+use common::limits::LONGEST_FRAME;
+use common::limits::LONGEST_SCRIPT;
+use common::refusals;
 ghost use mathlib.Core.Path.{_≡_};
 ghost use Prim.Native.Nat.{_+_, _≤_, _<_};
 ghost use lib.ListN.{length, take, drop};
-ghost use Rattle.script.specs.Record.{longestScript};
+ghost use Rattle.common.specs.Limits.{longestScript};
 ghost use Rattle.script.specs.Decode.{frontFrame, frontWait, front};
 ghost use Rattle.script.specs.Reader.{twoBytesAt, fourBytesAt, numberOf, answer, recordAt, readerNumber, framePart};
-
-// "At most 32,768 bytes"
-pub const LONGEST_SCRIPT: usize = 32768;
-
-// A frame has "1 to 4,101" bytes.
-pub const LONGEST_FRAME: usize = 4101;
-
-// Refusals: a script over 32,768 bytes; and why a record is malformed or cut short.
-pub const SCRIPT_TOO_LONG: u32 = 11;
-
-pub const UNKNOWN_MARK: u32 = 12;
-
-pub const WRONG_LENGTH: u32 = 12;
-
-pub const CUT_SHORT: u32 = 12;
 
 // What the reader answers: the frame's place in the script or the wait, with the next offset; the end or a refusal, with the given one.
 pub enum Found {
@@ -65,20 +53,20 @@ fn frame_at(script: &[u8], offset: usize) -> Found
     let start = offset + 4;
     if script.len() < start {
         return Found::Refused {
-            number: CUT_SHORT,
+            number: refusals::CUT_SHORT,
             next: offset,
         };
     }
     let length = two_bytes_at(script, offset + 2) as usize;
     if (length < 1) | (LONGEST_FRAME < length) {
         return Found::Refused {
-            number: WRONG_LENGTH,
+            number: refusals::WRONG_LENGTH,
             next: offset,
         };
     }
     if script.len() - start < length {
         return Found::Refused {
-            number: CUT_SHORT,
+            number: refusals::CUT_SHORT,
             next: offset,
         };
     }
@@ -97,7 +85,7 @@ fn wait_at(script: &[u8], offset: usize) -> Found
     let next = offset + 6;
     if script.len() < next {
         return Found::Refused {
-            number: CUT_SHORT,
+            number: refusals::CUT_SHORT,
             next: offset,
         };
     }
@@ -117,7 +105,7 @@ fn front_at(script: &[u8], offset: usize) -> Found
     }
     if script.len() - offset < 2 {
         return Found::Refused {
-            number: CUT_SHORT,
+            number: refusals::CUT_SHORT,
             next: offset,
         };
     }
@@ -130,7 +118,7 @@ fn front_at(script: &[u8], offset: usize) -> Found
         return wait_at(script, offset);
     }
     Found::Refused {
-        number: UNKNOWN_MARK,
+        number: refusals::UNKNOWN_MARK,
         next: offset,
     }
 }
@@ -142,13 +130,13 @@ pub fn record_at(script: &[u8], offset: usize) -> Found
 {
     if LONGEST_SCRIPT < script.len() {
         return Found::Refused {
-            number: SCRIPT_TOO_LONG,
+            number: refusals::SCRIPT_TOO_LONG,
             next: offset,
         };
     }
     if script.len() < offset {
         return Found::Refused {
-            number: CUT_SHORT,
+            number: refusals::CUT_SHORT,
             next: offset,
         };
     }

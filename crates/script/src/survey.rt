@@ -1,8 +1,8 @@
 // A whole script, looked through before it is run.
 use super::reader::Found;
-use super::reader::LONGEST_SCRIPT;
-use super::reader::SCRIPT_TOO_LONG;
 use super::reader::record_at;
+use common::limits::LONGEST_SCRIPT;
+use common::refusals;
 ghost use mathlib.Core.Path.{_≡_};
 ghost use Rattle.script.specs.Survey.{countedSurvey, refusedSurvey, surveyOf};
 
@@ -46,7 +46,7 @@ pub fn survey_of(script: &[u8]) -> Survey
     ensures { λ r. ⌜ r ≡ surveyOf (now (script .entry)) ⌝ }
 {
     if LONGEST_SCRIPT < script.len() {
-        return refused_survey(SCRIPT_TOO_LONG, 0);
+        return refused_survey(refusals::SCRIPT_TOO_LONG, 0);
     }
     let mut at: usize = 0;
     let mut frames: u32 = 0;

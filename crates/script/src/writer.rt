@@ -2,7 +2,8 @@
 use common::buffer::put;
 ghost use Prim.Native.Nat.{_+_, _≤_};
 ghost use lib.ListN.{length};
-ghost use Rattle.script.specs.Record.{longestFrame, encodeRecord, frame, wait};
+ghost use Rattle.script.specs.Record.{encodeRecord, frame, wait};
+ghost use Rattle.common.specs.Limits.{longestFrame};
 ghost use Rattle.common.specs.Buffer.{Put};
 ghost use Rattle.script.specs.Head.{frameHead};
 

@@ -20,14 +20,14 @@ atRest chip bp tb bpl = record {
   wel = false;
   aai = false;
   armed = false;
-  down = false;
+  «power_down» = false;
   left = 0;
   next = 0;
 }
 
 -- "New 008A: BP 111, the rest 0. New 05PA: all 0"
 unfoldable pub newState : ℕ → State
-newState number = atRest number (chipOf number .newlevel) false false
+newState number = atRest number (chipOf number .«new_level») false false
 
 -- "making a chip of an unknown number gets no state and returns a new 05PA with refusal 1"
 unfoldable pub newChip : ℕ → Answer

@@ -4,7 +4,7 @@ use mathlib.Core.Bool.{Bool, true, false, _&&_, not}
 use mathlib.Core.List.{List, [], _∷_, _++_}
 use Prim.Native.Nat.{ℕ, zero, suc}
 use Rattle.state.specs.declared.State.{State}
-use Rattle.state.specs.State.{withLeft, withWel, withArmed, withDown, withAai, withBits}
+use Rattle.state.specs.State.{withLeft, withWel, withArmed, withPowerDown, withAai, withBits}
 use Rattle.state.specs.Soundness.{allOf, registerClauses, aaiClauses, isSound}
 use Rattle.state.specs.Power.{atRest}
 
@@ -52,11 +52,11 @@ rows =
     ∷ row 2 (busy small 1000000) (busy small 1000001)  -- or 1,000,000 (05PA)
     ∷ row 3 (busy big 7) (withWel (busy big 7) false)  -- BUSY, and then WEL is 1
     ∷ row 4 (busy big 7) (withArmed (busy big 7) true)  -- and not armed
-    ∷ row 5 (busy small 7) (withDown (busy small 7) true)  -- nor power-down
-    ∷ row 6 (withArmed (withWel small true) true) (withDown (withArmed (withWel small true) true) true)  -- armed and power-down
+    ∷ row 5 (busy small 7) (withPowerDown (busy small 7) true)  -- nor power-down
+    ∷ row 6 (withArmed (withWel small true) true) (withPowerDown (withArmed (withWel small true) true) true)  -- armed and power-down
     ∷ row 7 (withArmed (withWel small true) true) (withArmed small true)  -- on the 05PA armed needs WEL 1
     ∷ row 8 big (withBits big 0 true false)  -- no TB on the 008A
-    ∷ row 9 big (withDown big true)  -- no power-down on the 008A
+    ∷ row 9 big (withPowerDown big true)  -- no power-down on the 008A
     ∷ row 10 (withWel small true) (withAai (withWel small true) true 2)  -- no AAI on the 05PA
     ∷ row 11 big (withAai big false 2)  -- without AAI next is 0
     ∷ row 12 (inAai 0 2) (withWel (inAai 0 2) false)  -- with AAI: WEL 1
@@ -72,7 +72,7 @@ rows =
 abbrev pub reached : List State
 reached =
     withArmed (atRest 8 7 false false) true  -- 50 on a new 008A: armed with WEL 0
-    ∷ withDown (withWel small true) true  -- 06, then B9 on the 05PA: power-down with WEL 1
+    ∷ withPowerDown (withWel small true) true  -- 06, then B9 on the 05PA: power-down with WEL 1
     ∷ inAai 0 2  -- AAI that waits for its next word
     ∷ inAai 7 0x10_0000  -- the last word of the array being programmed
     ∷ []

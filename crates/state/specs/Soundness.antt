@@ -28,14 +28,14 @@ abbrev pub registerClauses : State → List Bool
 registerClauses s =
     isKnown (s .chip)  -- "chip number 8 or 5"
     ∷ leb (s .bp) 7  -- three bits (ours)
-    ∷ leb (s .left) (dataOf s .chiptime)  -- "left at most 8,000,000 or 1,000,000"
+    ∷ leb (s .left) (dataOf s .«chip_time»)  -- "left at most 8,000,000 or 1,000,000"
     ∷ implies (isBusy s) (s .wel)  -- "BUSY .., and then WEL is 1
     ∷ implies (isBusy s) (not (s .armed))  -- and neither armed
-    ∷ implies (isBusy s) (not (s .down))  -- nor power-down holds"
-    ∷ implies (s .armed) (not (s .down))  -- "armed and power-down never hold together"
+    ∷ implies (isBusy s) (not (s .«power_down»))  -- nor power-down holds"
+    ∷ implies (s .armed) (not (s .«power_down»))  -- "armed and power-down never hold together"
     ∷ implies (s .armed) (dataOf s .ewsr || s .wel)  -- "on the 05PA armed needs WEL 1"
-    ∷ implies (s .tb) (dataOf s .topbottom)  -- "no TB
-    ∷ implies (s .down) (dataOf s .sleeps)  -- or power-down on the 008A"
+    ∷ implies (s .tb) (dataOf s .«top_bottom»)  -- "no TB
+    ∷ implies (s .«power_down») (dataOf s .sleeps)  -- or power-down on the 008A"
     ∷ implies (s .aai) (dataOf s .words)  -- "no AAI on the 05PA"
     ∷ []
 
@@ -59,7 +59,7 @@ isSound s = allOf (registerClauses s) && allOf (aaiClauses s)
 pub record Busy (s : State) : Type 0 where
   pub enabled : s .wel ≡ true
   pub disarmed : s .armed ≡ false
-  pub awake : s .down ≡ false
+  pub awake : s .«power_down» ≡ false
 
 pub record Running (s : State) : Type 0 where
   pub enabled : s .wel ≡ true
@@ -73,12 +73,12 @@ pub record Running (s : State) : Type 0 where
 pub record Sound (s : State) : Type 0 where
   pub known : isKnown (s .chip) ≡ true
   pub level : s .bp ≤ 7
-  pub timed : s .left ≤ dataOf s .chiptime
+  pub timed : s .left ≤ dataOf s .«chip_time»
   pub busy : 0 < s .left → Busy s
-  pub apart : s .armed ≡ true → s .down ≡ false
+  pub apart : s .armed ≡ true → s .«power_down» ≡ false
   pub latched : dataOf s .ewsr ≡ false → s .armed ≡ true → s .wel ≡ true
-  pub topped : s .tb ≡ true → dataOf s .topbottom ≡ true
-  pub sleeper : s .down ≡ true → dataOf s .sleeps ≡ true
+  pub topped : s .tb ≡ true → dataOf s .«top_bottom» ≡ true
+  pub sleeper : s .«power_down» ≡ true → dataOf s .sleeps ≡ true
   pub worded : s .aai ≡ true → dataOf s .words ≡ true
   pub rests : s .aai ≡ false → s .next ≡ 0
   pub runs : s .aai ≡ true → Running s

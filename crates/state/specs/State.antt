@@ -18,7 +18,7 @@ withLeft s n = record {
   wel = s .wel;
   aai = s .aai;
   armed = s .armed;
-  down = s .down;
+  «power_down» = s .«power_down»;
   left = n;
   next = s .next;
 }
@@ -32,7 +32,7 @@ withWel s b = record {
   wel = b;
   aai = s .aai;
   armed = s .armed;
-  down = s .down;
+  «power_down» = s .«power_down»;
   left = s .left;
   next = s .next;
 }
@@ -46,13 +46,13 @@ withArmed s b = record {
   wel = s .wel;
   aai = s .aai;
   armed = b;
-  down = s .down;
+  «power_down» = s .«power_down»;
   left = s .left;
   next = s .next;
 }
 
-abbrev pub withDown : State → Bool → State
-withDown s b = record {
+abbrev pub withPowerDown : State → Bool → State
+withPowerDown s b = record {
   chip = s .chip;
   bp = s .bp;
   tb = s .tb;
@@ -60,7 +60,7 @@ withDown s b = record {
   wel = s .wel;
   aai = s .aai;
   armed = s .armed;
-  down = b;
+  «power_down» = b;
   left = s .left;
   next = s .next;
 }
@@ -75,7 +75,7 @@ withAai s b n = record {
   wel = s .wel;
   aai = b;
   armed = s .armed;
-  down = s .down;
+  «power_down» = s .«power_down»;
   left = s .left;
   next = n;
 }
@@ -90,7 +90,7 @@ withBits s bp tb bpl = record {
   wel = s .wel;
   aai = s .aai;
   armed = s .armed;
-  down = s .down;
+  «power_down» = s .«power_down»;
   left = s .left;
   next = s .next;
 }

@@ -22,7 +22,7 @@ pub struct State {
     // a status write may come next
     pub armed: bool,
     // power-down
-    pub down: bool,
+    pub power_down: bool,
     // microseconds until the write cycle ends
     pub left: u32,
     // where AAI goes on

@@ -17,7 +17,7 @@ fn at_rest(chip: u8, bp: u8, tb: bool, bpl: bool) -> State
         wel: false,
         aai: false,
         armed: false,
-        down: false,
+        power_down: false,
         left: 0,
         next: 0,
     }
@@ -26,7 +26,7 @@ fn at_rest(chip: u8, bp: u8, tb: bool, bpl: bool) -> State
 fn new_state(chip: u8) -> State
     ensures { λ r. ⌜ r ≡ newState chip ⌝ }
 {
-    at_rest(chip, chip::chip_of(chip).newlevel, false, false)
+    at_rest(chip, chip::chip_of(chip).new_level, false, false)
 }
 
 // Make a new chip. Of an unknown number there is none: refusal 1 comes with a new F25L05PA.

@@ -10,14 +10,14 @@ fn registers_sound(s: State) -> bool
     let busy = 0 < s.left;
     chip::is_known(s.chip)
         & (s.bp <= 7)
-        & (s.left <= chip.chiptime)
+        & (s.left <= chip.chip_time)
         & (!busy | s.wel)
         & (!busy | !s.armed)
-        & (!busy | !s.down)
-        & (!s.armed | !s.down)
+        & (!busy | !s.power_down)
+        & (!s.armed | !s.power_down)
         & (!s.armed | (chip.ewsr | s.wel))
-        & (!s.tb | chip.topbottom)
-        & (!s.down | chip.sleeps)
+        & (!s.tb | chip.top_bottom)
+        & (!s.power_down | chip.sleeps)
         & (!s.aai | chip.words)
 }
 

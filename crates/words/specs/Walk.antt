@@ -4,7 +4,7 @@ use mathlib.Core.List.{List, [], _∷_, _++_}
 use Prim.Native.Nat.{ℕ, zero, suc, _+_}
 use Rattle.script.specs.Record.{Record, frame, wait}
 use Rattle.common.specs.Bits.{bit}
-use Rattle.region.specs.Region.{addressBytes}
+use Rattle.common.specs.Numbers.{addressBytes}
 use Rattle.words.specs.Words.{wordBytes, wordChanges}
 
 -- what a word adds: by whether a run goes on, and whether the word changes

@@ -5,7 +5,8 @@ use Prim.Native.Nat.{ℕ, zero, suc, _+_, _-_, _*_, _/_}
 use lib.Dec.{eqb}
 use lib.ListN.{length}
 use Rattle.script.specs.Record.{Record, frame, wait}
-use Rattle.region.specs.Region.{addressBytes, wantedAt, changes}
+use Rattle.region.specs.Region.{wantedAt, changes}
+use Rattle.common.specs.Numbers.{addressBytes}
 
 -- the word at an even address, and whether it holds a changing byte
 abbrev pub wordBytes : (ℕ → ℕ) → ℕ → List ℕ

@@ -15,9 +15,9 @@ pub record Regular (k : Chip) : Type 0 where
   -- whole blocks
   pub blocks : k .size % 65536 ≡ 0
   -- nothing takes longer than a chip erase
-  pub block-le : k .blocktime ≤ k .chiptime
-  pub sector-le : 90000 ≤ k .chiptime
-  pub level-le : k .newlevel ≤ 7
+  pub block-le : k .«block_time» ≤ k .«chip_time»
+  pub sector-le : 90000 ≤ k .«chip_time»
+  pub level-le : k .«new_level» ≤ 7
   -- AAI and power-down: no chip has both
   pub apart : k .words ≡ true → k .sleeps ≡ true → ⊥
   -- levels of protection: the table's size

@@ -80,5 +80,5 @@ module _ (s : State) (wp : Bool) (f : List ℕ) where
       let op = getD f 0 0 in
       cond-elim (Carries f) (ltb 0 (s .left)) (λ _. look-elim (Carries f) tt ((0x05, ReadStatus) ∷ []) op ((λ _. tt), tt))
       (λ _. cond-elim (Carries f) (s .aai) (λ _. look-elim (Carries f) tt (aaiRows s f) op (aai-carry op))
-      (λ _. cond-elim (Carries f) (s .down) (λ _. look-elim (Carries f) tt ((0xab, ReadSignature) ∷ []) op ((λ _. tt), tt))
+      (λ _. cond-elim (Carries f) (s .«power_down») (λ _. look-elim (Carries f) tt ((0xab, ReadSignature) ∷ []) op ((λ _. tt), tt))
       (λ _. look-elim (Carries f) tt (rows s wp f) (kindOf (s .chip) op) (rows-carry (kindOf (s .chip) op)))))

@@ -102,7 +102,7 @@ module _ (s : State) (wp : Bool) (f : List ℕ) where
   given : (c : Command) (t : Bool) → (t ≡ true → Fits s c) → Fits s (when t c)
   given c t h = cond-elim (Fits s) t h (λ _. tt)
 
-  erase-fits : (a n t : ℕ) → Resting s → t ≤ dataOf s .chiptime → Fits s (erase s a n t)
+  erase-fits : (a n t : ℕ) → Resting s → t ≤ dataOf s .«chip_time» → Fits s (erase s a n t)
   erase-fits a n t r h = given (Erase a n t) (writable s (a + n)) (λ w. (r, (open-of s (a + n) w, h)))
 
   rows-fit : Resting s → (op : ℕ) → AllRows (Fits s) (kindOf (s .chip) op) (rows s wp f)
@@ -112,8 +112,8 @@ module _ (s : State) (wp : Bool) (f : List ℕ) where
       (λ _. address-lt s f)
       ▹ (λ _. address-lt s f)
       ▹ (λ _. given _ (long f 4) (λ _. erase-fits (a / 4096 * 4096) 4096 90000 r (k .sector-le)))
-      ▹ (λ _. given _ (long f 4) (λ _. erase-fits (a / 65536 * 65536) 65536 (dataOf s .blocktime) r (k .block-le)))
-      ▹ (λ _. given _ (long f 1) (λ _. erase-fits 0 (dataOf s .size) (dataOf s .chiptime) r (omega arith)))
+      ▹ (λ _. given _ (long f 4) (λ _. erase-fits (a / 65536 * 65536) 65536 (dataOf s .«block_time») r (k .block-le)))
+      ▹ (λ _. given _ (long f 1) (λ _. erase-fits 0 (dataOf s .size) (dataOf s .«chip_time») r (omega arith)))
       ▹ (λ _. given _ (long f 5) (λ _. given (ProgramByte a) (writable s (a + 1)) (λ w. (r, open-of s (a + 1) w))))
       ▹ (λ _. given _ (leb 5 (length f)) (λ _. given (ProgramPage a (length f - 4)) (writable s (a + 1)) (λ w. (r, open-of s (a + 1) w))))
       ▹ (λ e. given _ (long f 6) (λ _. given (ProgramWord (a / 2 * 2) 4) (writable s (a / 2 * 2 + 2))
@@ -130,8 +130,8 @@ module _ (s : State) (wp : Bool) (f : List ℕ) where
       ▹ tt
 
   -- no chip with AAI has power-down
-  awake-in-aai : Sound s → s .aai ≡ true → s .down ≡ false
-  awake-in-aai h a = cases (s .down) (λ d. absurd (regular (s .chip) .apart (h .worded a) (h .sleeper d))) (λ d. d)
+  awake-in-aai : Sound s → s .aai ≡ true → s .«power_down» ≡ false
+  awake-in-aai h a = cases (s .«power_down») (λ d. absurd (regular (s .chip) .apart (h .worded a) (h .sleeper d))) (λ d. d)
 
   aai-fits : Sound s → s .left ≡ 0 → s .aai ≡ true → (op : ℕ) → AllRows (Fits s) op (aaiRows s f)
   aai-fits h z a op =
@@ -148,7 +148,7 @@ module _ (s : State) (wp : Bool) (f : List ℕ) where
       cond-elim (Fits s) (ltb 0 (s .left)) (λ _. look-elim (Fits s) tt ((0x05, ReadStatus) ∷ []) op ((λ _. tt), tt))
       (λ e. let z : s .left ≡ 0 = let l = ltb-false 0 (s .left) e in omega arith in
       cond-elim (Fits s) (s .aai) (λ a. look-elim (Fits s) tt (aaiRows s f) op (aai-fits h z a op))
-      (λ a. cond-elim (Fits s) (s .down) (λ _. look-elim (Fits s) tt ((0xab, ReadSignature) ∷ []) op ((λ _. tt), tt))
+      (λ a. cond-elim (Fits s) (s .«power_down») (λ _. look-elim (Fits s) tt ((0xab, ReadSignature) ∷ []) op ((λ _. tt), tt))
       (λ d. look-elim (Fits s) tt (rows s wp f) (kindOf (s .chip) op) (rows-fit record { still = z; single = a; awake = d } op))))
 
 -- AAI's next address leaves room for a word

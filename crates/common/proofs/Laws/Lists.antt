@@ -1,19 +1,18 @@
--- The laws of `mapi`, `tab`, `upTo` and `countBelow`: one place at a time, and one turn of a loop.
+-- The laws of `mapi`, `tab`, `upTo` and `onRun`: one place at a time, and one turn of a loop.
 -- Assumes nothing.
 use mathlib.Core.Path.{_≡_, refl, sym, ap, _∙_}
-use mathlib.Core.Bool.{Bool, true, false, cond, and-false}
+use mathlib.Core.Bool.{Bool, and-false}
 use mathlib.Core.List.{List, [], _∷_}
 use mathlib.Core.Logic.{⊎-elim, _⊎_, inl, inr}
 use Prim.Native.Nat.{ℕ, zero, suc, _+_, _≤_, _<_}
 use native.Mathlib.Nat.{le-of-suc-le-suc, not-suc-le-zero, eq-or-lt-of-le}
-use native.Mathlib.Numerals.{add-one}
 use native.Mathlib.Omega.{arith}
 use native.Mathlib.Decide.{ℕ-discrete, decLt}
 use lib.Dec.{leb, ltb}
 use lib.ListN.{length, getD, set, length-set}
 use lib.Seq.{ext-getD, getD-set-same, getD-set-other}
 use borrow.Author.Tests.{lt-ltb, le-ltb, le-leb, lt-leb}
-use Rattle.common.specs.Lists.{mapi, tab, upTo, onRun, countBelow}
+use Rattle.common.specs.Lists.{mapi, tab, upTo, onRun}
 
 pub split : (k i : ℕ) → (k < i) ⊎ (i ≤ k)
 split k i = elim (decLt k i) [ yes h ↦ inl h | no h ↦ inr (omega arith) ]
@@ -37,6 +36,10 @@ getD-tab (suc n) f zero d h = refl
 getD-tab (suc n) f (suc k) d h = getD-tab n (λ k. f (suc k)) k d (le-of-suc-le-suc h)
 
 -- effects that agree on the bytes of a list change it alike
+pub tab-cong : {A : Type 0} (n : ℕ) (f g : ℕ → A) → ((k : ℕ) → f k ≡ g k) → tab n f ≡ tab n g
+tab-cong zero f g h = refl
+tab-cong (suc n) f g h = rw (h 0, tab-cong n (λ k. f (suc k)) (λ k. g (suc k)) (λ k. h (suc k))) refl
+
 pub mapi-cong : (f g : ℕ → ℕ → ℕ) (l : List ℕ) → ((k : ℕ) → k < length l → f k (getD l k 0) ≡ g k (getD l k 0)) → mapi f l ≡ mapi g l
 mapi-cong f g l h =
     ext-getD 0 (mapi f l) (mapi g l) (simp length-mapi)
@@ -94,27 +97,6 @@ loop-end f l a hi h e =
 -- a loop over a whole list ends
 pub mapi-all : (f : ℕ → ℕ → ℕ) (l : List ℕ) → mapi (upTo (length l) f) l ≡ mapi f l
 mapi-all f l = mapi-cong (upTo (length l) f) f l (λ k b. rw (lt-ltb k (length l) b) refl)
-
--- one number further
-pub count-turn : (test : ℕ → Bool) (k : ℕ) → countBelow test (k + 1) ≡ countBelow test k + cond (test k) 1 0
-unfolding countBelow
-count-turn test k = rw (add-one k) refl
-
--- no number below k passes
-pub count-none : (test : ℕ → Bool) (k : ℕ) → ((i : ℕ) → i < k → test i ≡ false) → countBelow test k ≡ 0
-unfolding countBelow
-count-none test zero h = refl
-count-none test (suc k) h = rw (count-none test k (λ i b. h i (omega arith)), h k (omega arith)) refl
-
--- at most all of them pass
-pub count-le : (test : ℕ → Bool) (k : ℕ) → countBelow test k ≤ k
-unfolding countBelow
-count-le test zero = omega arith
-count-le test (suc k) = omega (arith, count-le test k, step (test k))
-  where
-    step : (t : Bool) → cond t 1 0 ≤ 1
-    step true = omega arith
-    step false = omega arith
 
 -- ---- a loop over a run of places, one store a turn
 

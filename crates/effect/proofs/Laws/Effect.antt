@@ -8,28 +8,16 @@ use native.Mathlib.Omega.{arith}
 use lib.Dec.{leb, ltb, eqb}
 use lib.ListN.{getD}
 use borrow.Author.Tests.{leb-true, ltb-true, eqb-true, le-leb, lt-leb, lt-ltb, le-ltb}
+use Rattle.common.proofs.Laws.Places.{within-bounds, count-none}
 use Rattle.common.proofs.Laws.Booleans.{and-l, and-r, and-i}
 use Rattle.common.proofs.Laws.Choice.{cases}
-use Rattle.common.proofs.Laws.Lists.{count-none}
 use Rattle.effect.specs.declared.Effect.{Effect}
 use Rattle.effect.specs.declared.Effect.the-variants.{Keep, Fill, Program, Round}
-use Rattle.effect.specs.Effect.{within, turn, touches, struck, changed, spanOf}
+use Rattle.effect.specs.Effect.{turn, touches, struck, changed, spanOf}
+use Rattle.common.specs.Lists.{within}
 use Rattle.effect.specs.Cut.{mixed, maskPlace, cut}
 
 -- ---- the span
-
-module _ (a n k : ℕ) where
-  pub within-bounds : within a n k ≡ true → (a ≤ k) × (k < a + n)
-  within-bounds e = (leb-true a k (and-l (leb a k) (ltb k (a + n)) e), ltb-true k (a + n) (and-r (leb a k) (ltb k (a + n)) e))
-
-  pub within-yes : a ≤ k → k < a + n → within a n k ≡ true
-  within-yes h l = and-i (le-leb a k h) (lt-ltb k (a + n) l)
-
-  pub within-below : k < a → within a n k ≡ false
-  within-below h = rw (lt-leb a k h) refl
-
-  pub within-above : a + n ≤ k → within a n k ≡ false
-  within-above h = rw (le-leb a k (omega arith), le-ltb k (a + n) h) refl
 
 pub round-bounds : (a n k : ℕ) → touches (Round a n) k ≡ true → (k / 256 ≡ a / 256) × (turn a k < n)
 unfolding touches

@@ -9,40 +9,16 @@ use native.Mathlib.Omega.{arith}
 use lib.Arith.{le-zero}
 use lib.Dec.{leb, ltb, eqb}
 use borrow.Author.Tests.{leb-true, ltb-true, ltb-false, eqb-true, eqb-false, lt-ltb, le-ltb, eq-eqb}
-use Rattle.common.specs.Lists.{countBelow}
+use Rattle.common.specs.Lists.{countBelow, within}
 use Rattle.common.proofs.Laws.Choice.{cond-elim, cases}
-use Rattle.common.proofs.Laws.Lists.{split, count-turn, count-none}
+use Rattle.common.proofs.Laws.Lists.{split}
+use Rattle.common.proofs.Laws.Places.{count-sum, count-le-count, count-within, count-turn, count-none, within-bounds, within-yes, within-below, within-above}
 use Rattle.effect.specs.declared.Effect.{Effect}
 use Rattle.effect.specs.declared.Effect.the-variants.{Keep, Fill, Program, Round}
-use Rattle.effect.specs.Effect.{pageEffect, within, turn, touches, spanOf, maskLength}
+use Rattle.effect.specs.Effect.{pageEffect, turn, touches, spanOf, maskLength}
 use Rattle.effect.specs.Cut.{maskPlace}
-use Rattle.effect.proofs.Laws.Effect.{within-bounds, within-yes, within-below, within-above, round-bounds, touched-in-span}
+use Rattle.effect.proofs.Laws.Effect.{round-bounds, touched-in-span}
 use Rattle.effect.proofs.Laws.Turn.{turn-up, turn-round}
-
--- ---- counting
-
--- what counts in one of two tests counts once
-count-sum : (test s t : ℕ → Bool) → ((k : ℕ) → cond (test k) 1 0 ≡ cond (s k) 1 0 + cond (t k) 1 0)
-    → (k : ℕ) → countBelow test k ≡ countBelow s k + countBelow t k
-unfolding countBelow
-count-sum test s t one zero = refl
-count-sum test s t one (suc k) = omega (arith, count-sum test s t one k, one k)
-
-pub count-le-count : (test : ℕ → Bool) (j k : ℕ) → j ≤ k → countBelow test j ≤ countBelow test k
-unfolding countBelow
-count-le-count test j zero h = rw (le-zero h) (omega arith)
-count-le-count test j (suc k) h =
-    ⊎-elim (λ e. rw e (omega arith)) (λ l. omega (arith, count-le-count test j k (le-of-suc-le-suc l))) (eq-or-lt-of-le h)
-
--- ---- the n addresses from a up
-
-pub count-within : (a n k : ℕ) → countBelow (within a n) k ≡ min (k - a) n
-unfolding countBelow
-count-within a n zero = omega arith
-count-within a n (suc k) =
-    let e = count-within a n k in
-    ⊎-elim (λ l. rw (within-below a n k l) (omega arith))
-    (λ g. ⊎-elim (λ l. rw (within-yes a n k g l) (omega arith)) (λ l. rw (within-above a n k l) (omega arith)) (split k (a + n))) (split k a)
 
 -- ---- round the page: those past its end, which lie from its start up, and those from a up
 

@@ -16,9 +16,11 @@ use Rattle.common.proofs.Laws.Choice.{cond-elim, cases}
 use Rattle.common.proofs.Laws.Lists.{split}
 use Rattle.effect.specs.declared.Effect.{Effect}
 use Rattle.effect.specs.declared.Effect.the-variants.{Program, Round}
-use Rattle.effect.specs.Effect.{pageEffect, within, turn, lastFor, touches, struck, changed}
+use Rattle.effect.specs.Effect.{pageEffect, turn, lastFor, touches, struck, changed}
+use Rattle.common.specs.Lists.{within}
 use Rattle.common.proofs.Laws.Bits.{and-full}
-use Rattle.effect.proofs.Laws.Effect.{changed-other, within-bounds, within-yes, within-below, within-above}
+use Rattle.effect.proofs.Laws.Effect.{changed-other}
+use Rattle.common.proofs.Laws.Places.{within-bounds, within-yes, within-below, within-above}
 use Rattle.effect.proofs.Laws.Turn.{turn-offset, turn-up, turn-round, turn-here, turn-next-here, turn-there, turn-next-there}
 
 -- ---- the rule, step by step

@@ -9,11 +9,12 @@ use native.Mathlib.Omega.{arith}
 use lib.Dec.{ltb, eqb}
 use lib.ListN.{length}
 use borrow.Author.Tests.{eqb-true, eqb-false, eq-eqb, ne-eqb, ltb-true, ltb-false, lt-ltb, le-ltb}
+use Rattle.common.specs.Limits.{longestFrame}
 use Rattle.common.specs.Refusals.{firstOf}
 use Rattle.common.proofs.Laws.Booleans.{or-none-l, or-none-r, or-imp, imp-or}
 use Rattle.common.proofs.Laws.Choice.{cond-elim, cases}
 use Rattle.common.proofs.Laws.Pairs.{_▹_}
-use Rattle.common.proofs.Laws.Refusals.{Numbered}
+use Rattle.common.proofs.Laws.Refusals.{clear, first-behind, first-before}
 use Rattle.state.specs.declared.State.{State}
 use Rattle.state.specs.State.{dataOf}
 use Rattle.state.specs.Soundness.{isSound, Sound}
@@ -26,7 +27,7 @@ pub record Accepted (s : State) (size n out : ℕ) : Type 0 where
   pub sound : Sound s
   pub sized : size ≡ dataOf s .size
   pub some : 0 < n
-  pub short : n ≤ 4101
+  pub short : n ≤ longestFrame
   pub same : out ≡ n
 
 -- why a call gets a number: the first of these that is so
@@ -34,24 +35,24 @@ pub data Reason (s : State) (size n out : ℕ) : ℕ → Type 0 where
   none : Accepted s size n out → Reason s size n out 0
   unsound : isSound s ≡ false → Reason s size n out 1
   wrong-array : Sound s → (size ≡ dataOf s .size → ⊥) → Reason s size n out 2
-  wrong-frame : Sound s → size ≡ dataOf s .size → (n ≡ 0) ⊎ (4101 < n) → Reason s size n out 3
-  wrong-output : Sound s → size ≡ dataOf s .size → 0 < n → n ≤ 4101 → (out ≡ n → ⊥) → Reason s size n out 4
+  wrong-frame : Sound s → size ≡ dataOf s .size → (n ≡ 0) ⊎ (longestFrame < n) → Reason s size n out 3
+  wrong-output : Sound s → size ≡ dataOf s .size → 0 < n → n ≤ longestFrame → (out ≡ n → ⊥) → Reason s size n out 4
 
 -- a frame's length, as a test and in words
 module _ (n : ℕ) where
-  wrong-length : eqb n 0 || ltb 4101 n ≡ true → (n ≡ 0) ⊎ (4101 < n)
-  wrong-length e = cases (eqb n 0) (λ z. inl (eqb-true n 0 z)) (λ z. inr (ltb-true 4101 n (or-imp (eqb n 0) (ltb 4101 n) e z)))
+  wrong-length : eqb n 0 || ltb longestFrame n ≡ true → (n ≡ 0) ⊎ (longestFrame < n)
+  wrong-length e = cases (eqb n 0) (λ z. inl (eqb-true n 0 z)) (λ z. inr (ltb-true longestFrame n (or-imp (eqb n 0) (ltb longestFrame n) e z)))
 
-  length-wrong : (n ≡ 0) ⊎ (4101 < n) → eqb n 0 || ltb 4101 n ≡ true
-  length-wrong w = imp-or (eqb n 0) (ltb 4101 n) (λ z. ⊎-elim (λ e. absurd (eqb-false n 0 z e)) (lt-ltb 4101 n) w)
+  length-wrong : (n ≡ 0) ⊎ (longestFrame < n) → eqb n 0 || ltb longestFrame n ≡ true
+  length-wrong w = imp-or (eqb n 0) (ltb longestFrame n) (λ z. ⊎-elim (λ e. absurd (eqb-false n 0 z e)) (lt-ltb longestFrame n) w)
 
-  right-length : eqb n 0 || ltb 4101 n ≡ false → (0 < n) × (n ≤ 4101)
+  right-length : eqb n 0 || ltb longestFrame n ≡ false → (0 < n) × (n ≤ longestFrame)
   right-length e =
-      let z = eqb-false n 0 (or-none-l (eqb n 0) (ltb 4101 n) e) in
-      (omega arith, ltb-false 4101 n (or-none-r (eqb n 0) (ltb 4101 n) e))
+      let z = eqb-false n 0 (or-none-l (eqb n 0) (ltb longestFrame n) e) in
+      (omega arith, ltb-false longestFrame n (or-none-r (eqb n 0) (ltb longestFrame n) e))
 
-  length-right : 0 < n → n ≤ 4101 → eqb n 0 || ltb 4101 n ≡ false
-  length-right h l = rw (ne-eqb n 0 (λ z. omega arith), le-ltb 4101 n l) refl
+  length-right : 0 < n → n ≤ longestFrame → eqb n 0 || ltb longestFrame n ≡ false
+  length-right h l = rw (ne-eqb n 0 (λ z. omega arith), le-ltb longestFrame n l) refl
 
 module _ (s : State) (size n out : ℕ) where
   pub number-reason : Reason s size n out (frameNumber s size n out)
@@ -62,7 +63,7 @@ module _ (s : State) (size n out : ℕ) where
       (λ a. rw a (let h = sound-of s a in
       cases (eqb size (dataOf s .size))
       (λ b. rw b (let z = eqb-true size (dataOf s .size) b in
-      cond-elim P (eqb n 0 || ltb 4101 n) (λ c. wrong-frame h z (wrong-length n c))
+      cond-elim P (eqb n 0 || ltb longestFrame n) (λ c. wrong-frame h z (wrong-length n c))
       (λ c. let l = right-length n c in
       cases (eqb out n)
       (λ d. rw d (none record { sound = h; sized = z; some = l .0; short = l .1; same = eqb-true out n d }))
@@ -97,16 +98,6 @@ module _ (s : State) (size n out : ℕ) where
 
 -- ---- an interrupted frame: the frame's own refusals, then the mask's
 
--- refusals in two lists: those of the second count where none of the first holds
-first-of-append : (rs qs : List (ℕ × Bool)) → Numbered rs → firstOf (rs ++ qs) ≡ cond (eqb (firstOf rs) 0) (firstOf qs) (firstOf rs)
-first-of-append [] qs n = refl
-first-of-append (r ∷ rs) qs n = by (r .1) (first-of-append rs qs (n .1))
-  where
-    by : (t : Bool) → firstOf (rs ++ qs) ≡ cond (eqb (firstOf rs) 0) (firstOf qs) (firstOf rs)
-        → cond t (r .0) (firstOf (rs ++ qs)) ≡ cond (eqb (cond t (r .0) (firstOf rs)) 0) (firstOf qs) (cond t (r .0) (firstOf rs))
-    by true e = rw (ne-eqb (r .0) 0 (λ z. omega (arith, n .0))) refl
-    by false e = e
-
 -- by the array's length, the frame itself, and the lengths of the output and the mask
 pub record CutAccepted (s : State) (wp : Bool) (size : ℕ) (f : List ℕ) (out mask : ℕ) : Type 0 where
   pub whole : Accepted s size (length f) out
@@ -116,21 +107,23 @@ module _ (s : State) (wp : Bool) (size : ℕ) (f : List ℕ) (out mask : ℕ) wh
   abbrev maskRefusals : List (ℕ × Bool)
   maskRefusals = (5, not (eqb mask (maskLength (effectAt s wp f)))) ∷ []
 
-  cut-number : cutNumber s wp size f out mask
-      ≡ cond (eqb (frameNumber s size (length f) out) 0) (firstOf maskRefusals) (frameNumber s size (length f) out)
-  unfolding cutNumber frameNumber
-  cut-number = first-of-append (frameRefusals s size (length f) out) maskRefusals (omega arith ▹ omega arith ▹ omega arith ▹ omega arith ▹ tt)
-
   -- what the whole frame is refused for, the interrupted one is
   pub cut-number-refused : (frameNumber s size (length f) out ≡ 0 → ⊥) → cutNumber s wp size f out mask ≡ frameNumber s size (length f) out
-  cut-number-refused h = cut-number ∙ rw (ne-eqb (frameNumber s size (length f) out) 0 h) refl
+  unfolding cutNumber frameNumber
+  cut-number-refused h = first-before (frameRefusals s size (length f) out) maskRefusals _ (omega (arith, h)) refl
+
+  -- and where it would be accepted, the mask alone counts
+  mask-alone : Accepted s size (length f) out → cutNumber s wp size f out mask ≡ firstOf maskRefusals
+  unfolding cutNumber frameNumber
+  mask-alone a =
+      first-behind (frameRefusals s size (length f) out) maskRefusals (clear (frameRefusals s size (length f) out) refl (accepted-number s size (length f) out a))
 
   -- where the whole frame would be accepted, the mask's length tells
   pub cut-number-masked : Accepted s size (length f) out → mask ≡ maskLength (effectAt s wp f) → cutNumber s wp size f out mask ≡ 0
-  cut-number-masked a m = cut-number ∙ rw (accepted-number s size (length f) out a, eq-eqb mask (maskLength (effectAt s wp f)) m) refl
+  cut-number-masked a m = mask-alone a ∙ rw (eq-eqb mask (maskLength (effectAt s wp f)) m) refl
 
   pub cut-number-unmasked : Accepted s size (length f) out → (mask ≡ maskLength (effectAt s wp f) → ⊥) → cutNumber s wp size f out mask ≡ 5
-  cut-number-unmasked a m = cut-number ∙ rw (accepted-number s size (length f) out a, ne-eqb mask (maskLength (effectAt s wp f)) m) refl
+  cut-number-unmasked a m = mask-alone a ∙ rw (ne-eqb mask (maskLength (effectAt s wp f)) m) refl
 
   -- a mask of the right length is no reason
   pub cut-number-whole : mask ≡ maskLength (effectAt s wp f) → cutNumber s wp size f out mask ≡ frameNumber s size (length f) out

@@ -7,7 +7,8 @@ use Prim.Native.Nat.{ℕ, _+_, _-_, _*_, _≤_}
 use native.Mathlib.Omega.{arith}
 use lib.ListN.{length, take, drop, length-append, length-take}
 use lib.Seq.{take-at, drop-at, drop-drop}
-use Rattle.script.specs.Record.{Record, frame, wait, longestScript, scriptLength, outputLength}
+use Rattle.script.specs.Record.{Record, frame, wait, scriptLength, outputLength}
+use Rattle.common.specs.Limits.{longestScript}
 use Rattle.script.specs.Decode.{Decoded, records, badAt, followed, decode}
 use Rattle.script.specs.Survey.{surveyOf}
 use Rattle.script.specs.declared.survey.Survey.{Survey}

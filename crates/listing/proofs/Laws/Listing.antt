@@ -15,7 +15,8 @@ use Rattle.state.specs.State.{dataOf}
 use Rattle.state.specs.Power.{newState, newChip}
 use Rattle.state.specs.Status.{statusOf}
 use Rattle.state.proofs.Laws.Power.{new-sound}
-use Rattle.script.specs.Record.{Record, longestScript, outputLength}
+use Rattle.script.specs.Record.{Record, outputLength}
+use Rattle.common.specs.Limits.{longestScript}
 use Rattle.script.specs.Decode.{Fault, unknownMark, wrongLength, cutShort, faultNumber, Decoded, records, badAt, decode, decodeWithin}
 use Rattle.script.specs.Survey.{surveyOf, surveyed, refusedSurvey}
 use Rattle.script.specs.declared.survey.Survey.{Survey}

@@ -8,7 +8,7 @@ use lib.ListN.{length, take, drop, length-append}
 use lib.Seq.{take-at, length-take-le}
 use Rattle.state.specs.Power.{newChip}
 use Rattle.state.specs.Status.{statusOf}
-use Rattle.script.specs.Record.{longestScript}
+use Rattle.common.specs.Limits.{longestScript}
 use Rattle.script.specs.Survey.{surveyOf}
 use Rattle.script.specs.declared.survey.Survey.{Survey}
 use Rattle.run.specs.Script.{recordsOf, ScriptRun}

@@ -6,6 +6,7 @@ use native.Mathlib.Nat.{not-suc-le-zero}
 use native.Mathlib.Omega.{arith}
 use lib.ListN.{length, getD, set, length-set}
 use borrow.Author.Needs.{needs}
+use Rattle.common.specs.Limits.{longestFrame}
 use Rattle.common.specs.Lists.{mapi, upTo, tab}
 use Rattle.output.specs.Output.{shownAt, memory}
 use Rattle.common.proofs.Laws.Lists.{loop-start, loop-turn, mapi-all, mapi-tab}
@@ -14,7 +15,7 @@ use Rattle.output.proofs.show_each.Tie as tie
 
 abbrev Inv-loop : tie.InvT-loop
 Inv-loop s c array output₀ i₀ output i =
-    (i ≤ length output₀) × (length output₀ ≤ 4101) × (length output ≡ length output₀)
+    (i ≤ length output₀) × (length output₀ ≤ longestFrame) × (length output ≡ length output₀)
     × (output ≡ mapi (upTo i (λ k x. shownAt s c (memory array) k)) output₀)
 
 abbrev μ-loop : tie.MeasureT-loop

@@ -11,7 +11,8 @@ use lib.Seq.{ext-getD, getD-take, getD-drop, length-take-le}
 use Rattle.common.specs.Lists.{tab}
 use Rattle.common.proofs.Laws.Lists.{split, length-tab, getD-tab}
 use Rattle.script.specs.Record.{frame, wait, encodeRecord, encode}
-use Rattle.region.specs.Region.{addressBytes, wantedAt}
+use Rattle.region.specs.Region.{wantedAt}
+use Rattle.common.specs.Numbers.{addressBytes}
 use Rattle.script.specs.Head.{frameHead}
 use Rattle.region.proofs.Laws.Region.{wanted-inside}
 use Rattle.pages.specs.declared.Part.{Part}

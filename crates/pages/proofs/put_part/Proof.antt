@@ -7,7 +7,8 @@ use native.Mathlib.Omega.{arith}
 use lib.ListN.{take, drop}
 use borrow.Author.Needs.{needs}
 use Rattle.script.specs.Record.{frame, encodeRecord, encode}
-use Rattle.region.specs.Region.{addressBytes, wantedAt}
+use Rattle.region.specs.Region.{wantedAt}
+use Rattle.common.specs.Numbers.{addressBytes}
 use Rattle.script.specs.Head.{frameHead}
 use Rattle.common.proofs.Laws.Buffer.{Whole, left-start, left-room, left-turn, left-fits, left-last, put-none}
 use Rattle.pages.specs.Pages.{partRecords}

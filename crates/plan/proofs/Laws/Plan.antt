@@ -25,7 +25,7 @@ use Rattle.words.proofs.Laws.Words.{words-step-fits, words-step-le, words-step-
 use Rattle.pages.specs.Pages.{pagesIn}
 use Rattle.pages.proofs.Laws.Pages.{pages-step-fits, pages-step-le, pages-step-none, pages-step-unchanged}
 use Rattle.plan.specs.Plan.{isProtectedChange, stepOneNeeded, statusRecords, statusStep, programStep, planRecords, withStatus}
-use Rattle.plan.proofs.Laws.Exactly.{Exactly}
+use Rattle.common.proofs.Laws.Refusals.{Exactly}
 
 -- whether step 1 is needed for the i-th byte of the region
 pub protected-at : (first : ℕ) (array : List ℕ) (start : ℕ) (wanted : List ℕ) (i : ℕ) → i < length wanted

@@ -12,7 +12,7 @@ use borrow.Author.Tests.{lt-ltb, le-ltb, eq-eqb, ltb-false, eqb-true, not-false}
 use Rattle.common.specs.Refusals.{firstOf}
 use Rattle.common.proofs.Laws.Booleans.{or-none-l, or-none-r}
 use Rattle.common.proofs.Laws.Lists.{split}
-use Rattle.common.proofs.Laws.Refusals.{Clear, clear}
+use Rattle.common.proofs.Laws.Refusals.{Clear, clear, Exactly, Given, given-exactly, first-behind, first-before}
 use Rattle.script.specs.Record.{encode}
 use Rattle.state.specs.declared.State.{State}
 use Rattle.state.specs.State.{dataOf}
@@ -20,8 +20,8 @@ use Rattle.state.specs.Soundness.{isSound, isBusy}
 use Rattle.chip.proofs.Laws.Chip.{regular}
 use Rattle.region.specs.Region.{Inside}
 use Rattle.plan.specs.Plan.{stepOneNeeded, planRecords}
-use Rattle.plan.specs.Refusals.{longestWanted, regionRefusals, scriptRefusals, planRefusals, planRefusal, RegionAccepted, Accepted}
-use Rattle.plan.proofs.Laws.Exactly.{Exactly, Given, given-exactly, first-behind, first-before}
+use Rattle.plan.specs.Refusals.{regionRefusals, scriptRefusals, planRefusals, planRefusal, RegionAccepted, Accepted}
+use Rattle.common.specs.Limits.{longestWanted}
 
 -- ---- refusal 6, without the sum
 
@@ -43,7 +43,7 @@ region-in size start n h = ap (λ (t : Bool). ltb longestWanted n || t) (⊎-eli
 
 module _ (s : State) (array : List ℕ) (start : ℕ) (wanted : List ℕ) where
   region-clear : firstOf (regionRefusals s array start wanted) ≡ 0 → Clear (regionRefusals s array start wanted)
-  region-clear e = clear (regionRefusals s array start wanted) (omega arith, (omega arith, (omega arith, (omega arith, (omega arith, tt))))) e
+  region-clear e = clear (regionRefusals s array start wanted) refl e
 
   region-words : Clear (regionRefusals s array start wanted) → RegionAccepted s array start wanted
   region-words c =
@@ -54,9 +54,9 @@ module _ (s : State) (array : List ℕ) (start : ℕ) (wanted : List ℕ) where
         sized = eqb-true (length array) (dataOf s .size) (not-false (eqb (length array) (dataOf s .size)) (c .1 .0));
         short = ltb-false longestWanted (length wanted) (or-none-l (ltb longestWanted (length wanted)) (ltb (dataOf s .size) (start + length wanted)) six);
         fits = ltb-false (dataOf s .size) (start + length wanted) (or-none-r (ltb longestWanted (length wanted)) (ltb (dataOf s .size) (start + length wanted)) six);
-        ready = omega (arith, ltb-false 0 (s .left) (or-none-l (isBusy s) (s .aai) (or-none-l (isBusy s || s .aai) (s .down) seven)));
-        no-aai = or-none-r (isBusy s) (s .aai) (or-none-l (isBusy s || s .aai) (s .down) seven);
-        awake = or-none-r (isBusy s || s .aai) (s .down) seven;
+        ready = omega (arith, ltb-false 0 (s .left) (or-none-l (isBusy s) (s .aai) (or-none-l (isBusy s || s .aai) (s .«power_down») seven)));
+        no-aai = or-none-r (isBusy s) (s .aai) (or-none-l (isBusy s || s .aai) (s .«power_down») seven);
+        awake = or-none-r (isBusy s || s .aai) (s .«power_down») seven;
         falls = c .1 .1 .1 .1 .0;
       }
 
@@ -92,7 +92,7 @@ module _ (s : State) (array : List ℕ) (start : ℕ) (wanted : List ℕ) where
     pub refused-exactly : (number : ℕ) → 0 < number
         → Exactly (planRefusal s wp array start wanted room ≡ number) (Given number (planRefusals s wp array start wanted room))
     unfolding planRefusal
-    refused-exactly number h = given-exactly (planRefusals s wp array start wanted room) refl number h
+    refused-exactly number h = given-exactly (planRefusals s wp array start wanted room) number h
 
     pub refusal-region : (number : ℕ) → 0 < number → firstOf (regionRefusals s array start wanted) ≡ number → planRefusal s wp array start wanted room ≡ number
     unfolding planRefusal
@@ -120,8 +120,7 @@ module _ (s : State) (array : List ℕ) (start : ℕ) (wanted : List ℕ) where
     pub accepted-of : planRefusal s wp array start wanted room ≡ 0 → Accepted s wp array start wanted room
     unfolding planRefusal
     accepted-of e =
-        let c = clear (planRefusals s wp array start wanted room)
-        (omega arith, (omega arith, (omega arith, (omega arith, (omega arith, (omega arith, (omega arith, tt))))))) e in
+        let c = clear (planRefusals s wp array start wanted room) refl e in
         record {
           region = region-words (c .0, (c .1 .0, (c .1 .1 .0, (c .1 .1 .1 .0, (c .1 .1 .1 .1 .0, tt)))));
           writable = c .1 .1 .1 .1 .1 .0;

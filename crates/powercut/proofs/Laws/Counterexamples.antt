@@ -7,7 +7,7 @@ use mathlib.Core.List.{List, [], _∷_}
 use Prim.Native.Nat.{ℕ, _-_, _*_, _/_, _<_}
 use native.Mathlib.Omega.{arith}
 use lib.ListN.{length, getD}
-use Rattle.common.specs.Lists.{mapi}
+use Rattle.common.specs.Lists.{mapi, within}
 use Rattle.common.proofs.Laws.Lists.{getD-mapi}
 use Rattle.state.specs.declared.State.{State}
 use Rattle.chip.specs.Chip.{isKnown, chipOf}
@@ -29,7 +29,7 @@ use Rattle.frame.specs.Call.{effectAt}
 use Rattle.effect.proofs.Laws.Effect.{mask-place-start}
 use Rattle.run.specs.Run.{Device, device, run}
 use Rattle.run.proofs.Laws.Run.{Ready}
-use Rattle.region.specs.Region.{within, wantedAt, changes}
+use Rattle.region.specs.Region.{wantedAt, changes}
 use Rattle.words.specs.Words.{changingWords, joined, runsOf, furtherRecords, runRecords, runsRecords, wordsStep, wordsIn}
 use Rattle.plan.specs.Plan.{programStep}
 use Rattle.plan.specs.Refusals.{planRefusal}
@@ -96,7 +96,7 @@ module _ (wp : Bool) where
 
   -- a byte sent as 00 is lost
   zero-sent : byteBehind wp zeroRecords (atRest 8 0 false false) 0x12344 0xff ≡ 0x00
-  unfolding chipOf firstProtected commandOf byKind inAai kindOf stateAfter timePassed cycleEnded changed touches struck writable address
+  unfolding chipOf firstProtected commandOf byKind inAai kindOf stateAfter timePassed cycleEnded changed touches struck writable address within
   zero-sent = refl
 
   word-sent : effectAt (stateBehind wp (frame (0x06 ∷ []) ∷ []) (atRest 8 0 false false)) wp wordFrame ≡ Program 0x12344 2 4
@@ -104,7 +104,7 @@ module _ (wp : Bool) where
   word-sent = refl
 
   data-rises : cutByData (Program 0x12344 2 4) wordFrame (0xff ∷ 0xff ∷ []) 0x12344 0x00 ≡ 0xff
-  unfolding touches struck mixed
+  unfolding touches struck mixed within
   data-rises = rw (mask-place-start (Program 0x12344 2 4)) refl
 
   aai-unsound : (array : List ℕ) (room : ℕ) → planRefusal (aaiKept (stateBehind wp begun (atRest 8 0 false false))) wp array 0x12345 fe room ≡ 1

@@ -22,7 +22,7 @@ use Rattle.chip.specs.Kinds.{pageProgram, aaiProgram, ewsr, wrsr, wren, wrdi}
 use Rattle.chip.specs.Instructions.{instructions008A, instructions05PA, instructionsOf, kindIn, kindOf}
 use Rattle.command.specs.declared.Command.the-variants.{WriteEnable, WriteDisable, Arm, WriteStatus, ProgramPage, ProgramWord}
 use Rattle.command.specs.Command.{address, writable, byKind, inAai, commandOf}
-use Rattle.region.specs.Region.{addressBytes}
+use Rattle.common.specs.Numbers.{addressBytes}
 use Rattle.powercut.proofs.Laws.States.{rest, running, busy, border, first-by}
 
 -- ---- the opcodes of a plan, on the chips that have them

@@ -17,7 +17,8 @@ use Rattle.effect.specs.declared.Effect.the-variants.{Keep, Program}
 use Rattle.effect.specs.Effect.{touches, struck, changed}
 use Rattle.effect.specs.Cut.{maskPlace, cut}
 use Rattle.common.specs.Bits.{Bytes}
-use Rattle.effect.proofs.Laws.Effect.{within-bounds, changed-touched, changed-other, cut-touched, cut-other}
+use Rattle.effect.proofs.Laws.Effect.{changed-touched, changed-other, cut-touched, cut-other}
+use Rattle.common.proofs.Laws.Places.{within-bounds}
 use Rattle.powercut.proofs.Laws.Between.{Between, and-again, between-start, between-lt, between-programmed, between-mixed, between-same}
 
 -- by address: `w` the byte that is wanted

@@ -19,8 +19,8 @@ use Rattle.script.specs.Record.{Record}
 use Rattle.effect.specs.declared.Effect.{Effect}
 use Rattle.effect.specs.declared.Effect.the-variants.{Program}
 use Rattle.effect.specs.Effect.{pageEffect, touches}
-use Rattle.effect.proofs.Laws.Effect.{within-yes}
-use Rattle.region.specs.Region.{addressBytes}
+use Rattle.common.proofs.Laws.Places.{within-yes}
+use Rattle.common.specs.Numbers.{addressBytes}
 use Rattle.pages.specs.Pages.{beforeFirst, partLength, partRecords, pagesStep}
 use Rattle.pages.proofs.Laws.Spans.{first-false, first-true, last-le, last-false}
 use Rattle.powercut.specs.PowerCut.{stateAfterPlan}

@@ -12,7 +12,7 @@ use Rattle.state.specs.State.{withWel, withArmed}
 use Rattle.script.specs.Record.{Record, AllBytes}
 use Rattle.common.specs.Bits.{bitAt}
 use Rattle.run.specs.Run.{Device}
-use Rattle.region.specs.Region.{within}
+use Rattle.common.specs.Lists.{within}
 use Rattle.plan.specs.Plan.{planRecords}
 use Rattle.plan.specs.Refusals.{planRefusal}
 use Rattle.powercut.specs.PowerCut.{stateAfterPlan, Finished, PowerLost}

@@ -43,7 +43,7 @@ unfolding poweredUp newState
 awake s =
     cases (dataOf s .keeps)
     (λ k. record { bp = s .bp; tb = s .tb; bpl = s .bpl; is = rw k refl; lock = inr (refl, refl) })
-    (λ k. record { bp = chipOf (s .chip) .newlevel; tb = false; bpl = false; is = rw k refl; lock = inl refl })
+    (λ k. record { bp = chipOf (s .chip) .«new_level»; tb = false; bpl = false; is = rw k refl; lock = inl refl })
 
 -- of three, the last two don't hold together
 off : (a b c : Bool) → b && c ≡ false → a && b && c ≡ false

@@ -16,8 +16,9 @@ use Rattle.common.proofs.Laws.Choice.{cases}
 use Rattle.common.proofs.Laws.Lists.{split, length-mapi, getD-mapi}
 use Rattle.common.specs.Bits.{Bytes}
 use Rattle.common.proofs.Laws.Bits.{and-full}
-use Rattle.effect.proofs.Laws.Effect.{within-bounds, within-below, within-above}
-use Rattle.region.specs.Region.{within, wantedAt, changes, rises, anyOf}
+use Rattle.common.proofs.Laws.Places.{within-bounds, within-below, within-above}
+use Rattle.region.specs.Region.{wantedAt, changes, rises, anyOf}
+use Rattle.common.specs.Lists.{within}
 use Rattle.region.proofs.Laws.Region.{any-false, any-none}
 use Rattle.powercut.specs.PowerCut.{updated, Partway}
 use Rattle.powercut.proofs.Laws.Between.{between-bit}

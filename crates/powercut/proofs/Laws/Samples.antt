@@ -10,7 +10,8 @@ use Rattle.chip.specs.Chip.{chipOf}
 use Rattle.state.specs.Protection.{firstProtected}
 use Rattle.state.specs.Power.{atRest}
 use Rattle.script.specs.Record.{Record, frame, wait}
-use Rattle.region.specs.Region.{within, wantedAt, changes, anyOf}
+use Rattle.region.specs.Region.{wantedAt, changes, anyOf}
+use Rattle.common.specs.Lists.{within}
 use Rattle.region.proofs.Laws.Region.{changes-before, changes-behind}
 use Rattle.words.specs.Words.{changingWords, joined, runsOf, furtherRecords, runRecords, runsRecords, wordsStep}
 use Rattle.pages.specs.Pages.{beforeFirst, throughLast, partLength, partRecords, pagesStep}

@@ -6,7 +6,7 @@ use mathlib.Core.Bool.{Bool, true, false}
 use mathlib.Core.List.{List, [], _∷_, _++_}
 use Prim.Native.Nat.{ℕ}
 use Rattle.state.specs.declared.State.{State}
-use Rattle.state.specs.State.{withLeft, withWel, withArmed, withDown, withAai, withBits}
+use Rattle.state.specs.State.{withLeft, withWel, withArmed, withPowerDown, withAai, withBits}
 use Rattle.state.specs.Protection.{firstProtected}
 use Rattle.state.specs.Soundness.{Sound}
 use Rattle.script.specs.Record.{Record}
@@ -14,7 +14,7 @@ use Rattle.powercut.specs.PowerCut.{stateAfterPlan}
 
 -- nothing going on
 abbrev calmed : State → State
-calmed s = withAai (withDown (withLeft s 0) false) false 0
+calmed s = withAai (withPowerDown (withLeft s 0) false) false 0
 
 -- at rest at a level of protection, by WEL and armed
 abbrev pub rest : State → ℕ → Bool → Bool → State
@@ -29,8 +29,8 @@ abbrev pub busy : State → ℕ → State
 busy s bp = withLeft (rest s bp true false) 1500
 
 -- neither busy nor in AAI nor in power-down: the state is its own rest
-pub is-rest : (s : State) → Sound s → s .left ≡ 0 → s .aai ≡ false → s .down ≡ false → s ≡ rest s (s .bp) (s .wel) (s .armed)
-is-rest s h l a d = ap (withLeft s) l ∙ ap (withDown (withLeft s 0)) d ∙ ap₂ (withAai (withDown (withLeft s 0) false)) a (h .rests a)
+pub is-rest : (s : State) → Sound s → s .left ≡ 0 → s .aai ≡ false → s .«power_down» ≡ false → s ≡ rest s (s .bp) (s .wel) (s .armed)
+is-rest s h l a d = ap (withLeft s) l ∙ ap (withPowerDown (withLeft s 0)) d ∙ ap₂ (withAai (withPowerDown (withLeft s 0) false)) a (h .rests a)
 
 -- ---- protection
 

@@ -53,11 +53,11 @@ has-tb true tb h = refl
 has-tb false true h = h refl
 has-tb false false h = refl
 
-pub status-written : (s : State) (bp to : ℕ) (wel : Bool) → to ≤ 7 → (s .tb ≡ true → dataOf s .topbottom ≡ true)
+pub status-written : (s : State) (bp to : ℕ) (wel : Bool) → to ≤ 7 → (s .tb ≡ true → dataOf s .«top_bottom» ≡ true)
     → stateAfter (rest s bp wel true) (WriteStatus (statusByte to (s .tb) (s .bpl))) ≡ rest s to false false
 unfolding stateAfter
 status-written s bp to wel low topped =
-    rw (level-back to (s .tb) (s .bpl) low, tb-back to (s .tb) (s .bpl) low, bpl-back to (s .tb) (s .bpl) low, has-tb (dataOf s .topbottom) (s .tb) topped) refl
+    rw (level-back to (s .tb) (s .bpl) low, tb-back to (s .tb) (s .bpl) low, bpl-back to (s .tb) (s .bpl) low, has-tb (dataOf s .«top_bottom») (s .tb) topped) refl
 
 -- ---- the two frames
 
@@ -65,7 +65,7 @@ status-written s bp to wel low topped =
 pub held-at : (given : State) (bp : ℕ) → (bp ≡ given .bp) ⊎ (bp ≡ 0) → Held given (given .chip) bp (given .tb) (given .bpl)
 held-at given bp l = record { same-chip = refl; level-held = l; same-tb = refl; same-bpl = refl }
 
-module _ (t : Task) (topped : t .state .tb ≡ true → dataOf (t .state) .topbottom ≡ true) (free : not (t .state .bpl) || t .level ≡ true) where
+module _ (t : Task) (topped : t .state .tb ≡ true → dataOf (t .state) .«top_bottom» ≡ true) (free : not (t .state .bpl) || t .level ≡ true) where
   abbrev s : State
   s = t .state
 

@@ -7,7 +7,7 @@ use mathlib.Core.List.{List, []}
 use Prim.Native.Nat.{ℕ, _+_, _<_}
 use native.Mathlib.Omega.{arith}
 use lib.ListN.{length, getD}
-use Rattle.common.specs.Lists.{tab}
+use Rattle.common.specs.Lists.{tab, within}
 use Rattle.common.proofs.Laws.Lists.{length-tab, getD-tab}
 use Rattle.state.specs.declared.State.{State}
 use Rattle.chip.specs.Chip.{isKnown, chipOf}
@@ -17,7 +17,7 @@ use Rattle.state.specs.Soundness.{isSound}
 use Rattle.script.specs.Record.{AllBytes, encodeRecord, encode}
 use Rattle.script.proofs.Laws.Records.{all-bytes}
 use Rattle.run.specs.Run.{Device, device, run}
-use Rattle.region.specs.Region.{within, wantedAt, changes, rises, anyOf}
+use Rattle.region.specs.Region.{wantedAt, changes, rises, anyOf}
 use Rattle.plan.specs.Plan.{stepOneNeeded, planRecords}
 use Rattle.plan.specs.Refusals.{planRefusal}
 use Rattle.powercut.specs.PowerCut.{CutShort, between, PowerCutSafe}

@@ -22,8 +22,8 @@ use Rattle.registers.specs.Registers.{stateAfter}
 use Rattle.script.specs.Record.{Record, wait}
 use Rattle.effect.specs.declared.Effect.the-variants.{Program}
 use Rattle.effect.specs.Effect.{touches, changed}
-use Rattle.effect.proofs.Laws.Effect.{within-yes}
-use Rattle.region.specs.Region.{addressBytes}
+use Rattle.common.proofs.Laws.Places.{within-yes}
+use Rattle.common.specs.Numbers.{addressBytes}
 use Rattle.words.specs.Words.{wordBytes, wordChanges, wordsStep}
 use Rattle.words.specs.Walk.{wordRecords, words}
 use Rattle.words.proofs.Laws.Runs.{words-are-runs}

@@ -11,7 +11,8 @@ use lib.ListN.{length, getD}
 use borrow.Author.Tests.{lt-leb, le-leb, le-ltb, lt-ltb, eqb-true, eqb-false}
 use Rattle.common.proofs.Laws.Choice.{cases}
 use Rattle.common.proofs.Laws.Booleans.{or-none-l, or-none-r}
-use Rattle.region.specs.Region.{within, wantedAt, changes, rises, anyOf}
+use Rattle.region.specs.Region.{wantedAt, changes, rises, anyOf}
+use Rattle.common.specs.Lists.{within}
 
 -- ---- an address and the region
 

@@ -8,7 +8,7 @@ use native.Mathlib.Omega.{arith}
 use Rattle.common.proofs.Laws.Booleans.{and-l}
 use Rattle.state.specs.declared.State.{State}
 use Rattle.chip.specs.Chip.{isKnown}
-use Rattle.state.specs.State.{dataOf, withLeft, withWel, withArmed, withDown, withAai, withBits}
+use Rattle.state.specs.State.{dataOf, withLeft, withWel, withArmed, withPowerDown, withAai, withBits}
 use Rattle.state.specs.Protection.{firstProtected}
 use Rattle.state.specs.Soundness.{Busy, Running, Sound}
 use Rattle.chip.proofs.Laws.Chip.{regular}
@@ -37,7 +37,7 @@ use Rattle.command.proofs.Laws.Fits.{fits}
 
 module _ (s : State) (h : Sound s) where
   -- a frame that clears armed, and wakes the chip or not
-  quiet : (d : Bool) → (d ≡ true → s .down ≡ true) → (s .down ≡ false → d ≡ false) → Sound (withDown (disarm s) d)
+  quiet : (d : Bool) → (d ≡ true → s .«power_down» ≡ true) → (s .«power_down» ≡ false → d ≡ false) → Sound (withPowerDown (disarm s) d)
   unfolding firstProtected
   quiet d up off = record {
     known = h .known;
@@ -62,10 +62,10 @@ module _ (s : State) (h : Sound s) where
   }
 
   same : Sound (disarm s)
-  same = quiet (s .down) (λ e. e) (λ e. e)
+  same = quiet (s .«power_down») (λ e. e) (λ e. e)
 
   -- an erase or a program begins
-  begun : (t : ℕ) → Resting s → s .wel ≡ true → t ≤ dataOf s .chiptime → Sound (withLeft (disarm s) t)
+  begun : (t : ℕ) → Resting s → s .wel ≡ true → t ≤ dataOf s .«chip_time» → Sound (withLeft (disarm s) t)
   begun t r w g = record {
     known = h .known;
     level = h .level;
@@ -106,10 +106,10 @@ module _ (s : State) (h : Sound s) where
 
 -- a state at rest: what is left to show
 resting : (t : State) → isKnown (t .chip) ≡ true → t .bp ≤ 7 → t .left ≡ 0 → t .aai ≡ false → t .next ≡ 0
-    → (t .armed ≡ true → t .down ≡ false)
+    → (t .armed ≡ true → t .«power_down» ≡ false)
     → (dataOf t .ewsr ≡ false → t .armed ≡ true → t .wel ≡ true)
-    → (t .tb ≡ true → dataOf t .topbottom ≡ true)
-    → (t .down ≡ true → dataOf t .sleeps ≡ true)
+    → (t .tb ≡ true → dataOf t .«top_bottom» ≡ true)
+    → (t .«power_down» ≡ true → dataOf t .sleeps ≡ true)
     → Sound t
 resting t n l z a x p w b d = record {
   known = n;
@@ -142,7 +142,7 @@ state-after-sound s Arm h k =
     (λ w _. absurd (true≢false (sym (k .1) ∙ w))) (h .topped) (h .sleeper)
 state-after-sound s (WriteStatus b) h k =
     resting _ (h .known) (omega arith) (k .still) (k .single) (h .rests (k .single)) (λ e. absurd (false≢true e)) (λ _ e. absurd (false≢true e))
-    (λ e. and-l (dataOf s .topbottom) (has b 32) e) (h .sleeper)
+    (λ e. and-l (dataOf s .«top_bottom») (has b 32) e) (h .sleeper)
 state-after-sound s (Erase a n t) h k = begun s h t (k .0) (k .1 .0 .enabled) (k .1 .1)
 state-after-sound s (ProgramByte a) h k = begun s h 7 (k .0) (k .1 .enabled) (omega (arith, regular (s .chip) .sector-le))
 state-after-sound s (ProgramPage a n) h k = begun s h 1500 (k .0) (k .1 .enabled) (omega (arith, regular (s .chip) .sector-le))

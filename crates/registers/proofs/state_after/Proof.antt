@@ -64,14 +64,14 @@ in-aai-requires c κs = search needs
 enum-told-6 : tie.Need-enum-told-6
 enum-told-6 c = search needs
 
-with-down-requires : tie.Need-with-down-requires
-with-down-requires c κs = search needs
+with-power-down-requires : tie.Need-with-power-down-requires
+with-power-down-requires c κs = search needs
 
 enum-told-7 : tie.Need-enum-told-7
 enum-told-7 c = search needs
 
-with-down-requires-2 : tie.Need-with-down-requires-2
-with-down-requires-2 c κs = search needs
+with-power-down-requires-2 : tie.Need-with-power-down-requires-2
+with-power-down-requires-2 c κs = search needs
 
 enum-told-8 : tie.Need-enum-told-8
 enum-told-8 c = search needs
@@ -122,11 +122,11 @@ returns-8 c = rw (c .before .before .c3 .given .1) (rw (c .before .before .befor
 
 returns-9 : tie.Need-returns-9
 unfolding stateAfter
-returns-9 c = rw (c .before .enum-told6 .given .1) (rw (c .before .before .before .with-armed .ensures) at (c .with-down .ensures))
+returns-9 c = rw (c .before .enum-told6 .given .1) (rw (c .before .before .before .with-armed .ensures) at (c .with-power-down .ensures))
 
 returns-10 : tie.Need-returns-10
 unfolding stateAfter
-returns-10 c = rw (c .before .enum-told7 .given .1) (rw (c .before .before .before .with-armed .ensures) at (c .with-down2 .ensures))
+returns-10 c = rw (c .before .enum-told7 .given .1) (rw (c .before .before .before .with-armed .ensures) at (c .with-power-down2 .ensures))
 
 returns-11 : tie.Need-returns-11
 unfolding stateAfter
@@ -171,9 +171,9 @@ state-after-spec =
     add-in-aai
     in-aai-requires
     enum-told-6
-    with-down-requires
+    with-power-down-requires
     enum-told-7
-    with-down-requires-2
+    with-power-down-requires-2
     enum-told-8
     enum-told-9
     enum-told-10

@@ -13,7 +13,8 @@ use Rattle.state.specs.declared.State.{State}
 use Rattle.state.specs.State.{dataOf}
 use Rattle.state.specs.Soundness.{isSound, Sound}
 use Rattle.state.proofs.Laws.Soundness.{sound-of, of-sound}
-use Rattle.script.specs.Record.{Record, longestScript, AllFit, encode, scriptLength, framesIn, microsecondsIn, outputLength}
+use Rattle.script.specs.Record.{Record, AllFit, encode, scriptLength, framesIn, microsecondsIn, outputLength}
+use Rattle.common.specs.Limits.{longestScript}
 use Rattle.script.specs.Decode.{Fault, faultNumber, Decoded, records, badAt, decode}
 use Rattle.script.specs.Survey.{countedSurvey, surveyOf}
 use Rattle.script.proofs.Laws.Records.{encoded-length}

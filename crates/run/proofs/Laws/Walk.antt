@@ -11,7 +11,8 @@ use borrow.Rule.Slice.PartMut.{midOf, postOf, putMid, same-len-mid, mid-len}
 use Rattle.state.specs.declared.State.{State}
 use Rattle.state.specs.declared.Answer.{Answer}
 use Rattle.state.specs.Time.{passTime}
-use Rattle.script.specs.Record.{Record, frame, wait, longestScript, AllBytes, AllFit, outputLength}
+use Rattle.script.specs.Record.{Record, frame, wait, AllBytes, AllFit, outputLength}
+use Rattle.common.specs.Limits.{longestScript}
 use Rattle.script.specs.Decode.{Decoded, records, badAt, followed, decode}
 use Rattle.script.proofs.Laws.Records.{output-append}
 use Rattle.script.proofs.Laws.Decode.{encode-decode}

@@ -46,7 +46,3 @@ shown-by-memory s (ProgramByte a) m n h i = refl
 shown-by-memory s (ProgramPage a c) m n h i = refl
 shown-by-memory s (ProgramWord a j) m n h i = refl
 shown-by-memory s Sleep m n h i = refl
-
-pub tab-cong : (n : ℕ) (f g : ℕ → ℕ) → ((k : ℕ) → f k ≡ g k) → tab n f ≡ tab n g
-tab-cong zero f g h = refl
-tab-cong (suc n) f g h = rw (h 0, tab-cong n (λ k. f (suc k)) (λ k. g (suc k)) (λ k. h (suc k))) refl

@@ -9,7 +9,8 @@ use Rattle.chip.specs.Chip.{chipOf, isKnown}
 use Rattle.state.specs.Protection.{firstProtected}
 use Rattle.state.specs.Soundness.{isSound}
 use Rattle.script.specs.Record.{encodeRecord, encode, framesIn, microsecondsIn}
-use Rattle.region.specs.Region.{within, wantedAt, changes, rises, anyOf}
+use Rattle.region.specs.Region.{wantedAt, changes, rises, anyOf}
+use Rattle.common.specs.Lists.{within}
 use Rattle.words.specs.Words.{changingWords, joined, runsOf, furtherRecords, runRecords, runsRecords, wordsStep}
 use Rattle.plan.specs.Plan.{stepOneNeeded, programStep, planRecords}
 use Rattle.plan.specs.Refusals.{planRefusal}

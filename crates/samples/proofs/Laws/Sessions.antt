@@ -8,9 +8,9 @@ use native.Mathlib.Omega.{arith}
 use lib.Dec.{leb, ltb, eqb}
 use lib.ListN.{length, getD}
 use borrow.Author.Tests.{eqb-true, ltb-true}
-use Rattle.common.specs.Lists.{mapi, tab}
+use Rattle.common.specs.Lists.{mapi, tab, within}
 use Rattle.common.proofs.Laws.Booleans.{and-l, and-r}
-use Rattle.common.proofs.Laws.Lists.{length-mapi, getD-mapi}
+use Rattle.common.proofs.Laws.Lists.{length-mapi, getD-mapi, tab-cong}
 use Rattle.state.specs.declared.State.{State}
 use Rattle.state.specs.declared.Answer.{Answer}
 use Rattle.chip.specs.Chip.{chipOf, isKnown}
@@ -32,7 +32,7 @@ use Rattle.frame.proofs.Laws.Call.{frame-accepted}
 use Rattle.samples.specs.Session.{Step, send, pass, byteIs, protects, plans, Runs, Session, Holds}
 use Rattle.samples.specs.Table.{frameSessions, planSession, sessions}
 use Rattle.samples.proofs.Laws.Plan.{plan-holds}
-use Rattle.samples.proofs.Laws.Memory.{shown-by-memory, tab-cong}
+use Rattle.samples.proofs.Laws.Memory.{shown-by-memory}
 
 same : List ℕ → List ℕ → Bool
 same [] [] = true
@@ -149,7 +149,7 @@ all-hold (x ∷ xs) e =
     (λ array n h. runs (dataOf (x .state) .size) (x .steps) (x .state) (λ _. x .fill) array (and-l t (passes xs) e) (n, λ k b. h k (omega (arith, n))), all-hold xs (and-r t (passes xs) e))
 
 computed : passes frameSessions ≡ true
-unfolding test same bool-same isSound chipOf isKnown statusOf firstProtected newState newChip cycleEnded timePassed kindOf address writable byKind inAai commandOf stateAfter shownAt pageEffect touches struck changed frameNumber
+unfolding test same bool-same isSound chipOf isKnown statusOf firstProtected newState newChip cycleEnded timePassed kindOf address writable byKind inAai commandOf stateAfter shownAt pageEffect touches struck changed frameNumber within
 computed = refl
 
 all-append : {A : Type 0} (P : A → Type 0) (xs ys : List A) → All P xs → All P ys → All P (xs ++ ys)

@@ -9,7 +9,8 @@ use lib.ListN.{length, take, drop, length-drop}
 use lib.Seq.{drop-drop}
 use borrow.Author.Tests.{ltb-true, ltb-false}
 use Rattle.common.proofs.Laws.Choice.{cond-elim}
-use Rattle.script.specs.Record.{Record, frame, wait, longestScript, recordLength}
+use Rattle.script.specs.Record.{Record, frame, wait, recordLength}
+use Rattle.common.specs.Limits.{longestScript}
 use Rattle.script.specs.Decode.{Fault, faultNumber, Front, end, item, malformed, front, records, badAt, followed, decode}
 use Rattle.script.specs.Reader.{numberOf, nextOf, partOf, answer, recordAt, framePart}
 use Rattle.script.specs.declared.reader.Found.{Found}

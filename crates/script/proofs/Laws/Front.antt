@@ -12,7 +12,9 @@ use lib.Seq.{take-append-seam, drop-append-seam, take-append-le, drop-append-le,
 use borrow.Author.Tests.{eqb-true, ltb-false, lt-ltb, le-ltb}
 use Rattle.common.proofs.Laws.Booleans.{and-l, and-r, or-none-l, or-none-r}
 use Rattle.common.proofs.Laws.Choice.{cond-elim, yes, no}
-use Rattle.script.specs.Record.{Record, frame, wait, longestFrame, twoBytes, fourBytes, AllBytes, Fits, encodeRecord, recordLength}
+use Rattle.script.specs.Record.{Record, frame, wait, AllBytes, Fits, encodeRecord, recordLength}
+use Rattle.common.specs.Numbers.{twoBytes, fourBytes}
+use Rattle.common.specs.Limits.{longestFrame}
 use Rattle.script.specs.Decode.{wrongLength, cutShort, Front, end, item, malformed, frontBody, frontFrame, frontWait, front}
 
 four-bytes-back : (n : ℕ) → n < 4294967296 → fourBytes (n / 16777216) (n / 65536 % 256) (n / 256 % 256) (n % 256) ≡ n

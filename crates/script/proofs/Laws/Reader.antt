@@ -10,7 +10,8 @@ use lib.ListN.{length, take, drop, length-drop}
 use lib.Seq.{length-take-le}
 use borrow.Author.Tests.{lt-ltb, le-ltb}
 use Rattle.common.proofs.Laws.Choice.{yes, no}
-use Rattle.script.specs.Record.{frame, wait, longestFrame, longestScript, recordLength}
+use Rattle.script.specs.Record.{frame, wait, recordLength}
+use Rattle.common.specs.Limits.{longestFrame, longestScript}
 use Rattle.script.specs.Decode.{wrongLength, cutShort, faultNumber, Front, end, item, malformed, frontFrame, frontWait, front}
 use Rattle.script.specs.Reader.{twoBytesAt, fourBytesAt, numberOf, answer, recordAt, frontNumber, readerNumber, framePart}
 use Rattle.script.specs.declared.reader.Found.{Found}

@@ -10,7 +10,8 @@ use lib.Dec.{ltb}
 use lib.ListN.{length, take, drop}
 use borrow.Author.Tests.{ltb-true, ltb-false, lt-ltb, le-ltb}
 use Rattle.common.proofs.Laws.Choice.{cases, yes, no}
-use Rattle.script.specs.Record.{Record, frame, wait, longestScript, recordLength, framesIn, microsecondsIn, outputLength}
+use Rattle.script.specs.Record.{Record, frame, wait, recordLength, framesIn, microsecondsIn, outputLength}
+use Rattle.common.specs.Limits.{longestScript}
 use Rattle.script.specs.Decode.{Fault, unknownMark, wrongLength, cutShort, faultNumber, Decoded, records, badAt, followed, decode}
 use Rattle.script.specs.Survey.{countedSurvey, refusedSurvey, surveyed, surveyOf}
 use Rattle.script.specs.declared.survey.Survey.{Survey}

@@ -15,7 +15,7 @@ use Rattle.chip.proofs.Laws.Chip.{regular, known-5}
 use Rattle.state.proofs.Laws.Soundness.{sound-of, of-sound}
 
 -- a chip with nothing going on
-pub at-rest-sound : (chip bp : ℕ) (tb bpl : Bool) → isKnown chip ≡ true → bp ≤ 7 → (tb ≡ true → chipOf chip .topbottom ≡ true) → Sound (atRest chip bp tb bpl)
+pub at-rest-sound : (chip bp : ℕ) (tb bpl : Bool) → isKnown chip ≡ true → bp ≤ 7 → (tb ≡ true → chipOf chip .«top_bottom» ≡ true) → Sound (atRest chip bp tb bpl)
 at-rest-sound chip bp tb bpl k l t = record {
   known = k;
   level = l;
@@ -32,7 +32,7 @@ at-rest-sound chip bp tb bpl k l t = record {
 
 pub new-state-sound : (chip : ℕ) → isKnown chip ≡ true → Sound (newState chip)
 unfolding newState
-new-state-sound chip k = at-rest-sound chip (chipOf chip .newlevel) false false k (regular chip .level-le) (λ e. absurd (false≢true e))
+new-state-sound chip k = at-rest-sound chip (chipOf chip .«new_level») false false k (regular chip .level-le) (λ e. absurd (false≢true e))
 
 -- new: also with refusal 1
 pub new-sound : (number : ℕ) → isSound (newChip number .state) ≡ true

@@ -61,16 +61,16 @@ sound-of s e =
     record {
       known = k .0;
       level = leb-true (s .bp) 7 (k .1 .0);
-      timed = leb-true (s .left) (dataOf s .chiptime) (k .1 .1 .0);
+      timed = leb-true (s .left) (dataOf s .«chip_time») (k .1 .1 .0);
       busy = λ h. record {
         enabled = implies-elim (isBusy s) (s .wel) (k .1 .1 .1 .0) (busy-true s h);
         disarmed = not-true (s .armed) (implies-elim (isBusy s) (not (s .armed)) (k .1 .1 .1 .1 .0) (busy-true s h));
-        awake = not-true (s .down) (implies-elim (isBusy s) (not (s .down)) (k .1 .1 .1 .1 .1 .0) (busy-true s h));
+        awake = not-true (s .«power_down») (implies-elim (isBusy s) (not (s .«power_down»)) (k .1 .1 .1 .1 .1 .0) (busy-true s h));
       };
-      apart = λ a. not-true (s .down) (implies-elim (s .armed) (not (s .down)) (k .1 .1 .1 .1 .1 .1 .0) a);
+      apart = λ a. not-true (s .«power_down») (implies-elim (s .armed) (not (s .«power_down»)) (k .1 .1 .1 .1 .1 .1 .0) a);
       latched = λ w a. or-imp (dataOf s .ewsr) (s .wel) (implies-elim (s .armed) (dataOf s .ewsr || s .wel) (k .1 .1 .1 .1 .1 .1 .1 .0) a) w;
-      topped = implies-elim (s .tb) (dataOf s .topbottom) (k .1 .1 .1 .1 .1 .1 .1 .1 .0);
-      sleeper = implies-elim (s .down) (dataOf s .sleeps) (k .1 .1 .1 .1 .1 .1 .1 .1 .1 .0);
+      topped = implies-elim (s .tb) (dataOf s .«top_bottom») (k .1 .1 .1 .1 .1 .1 .1 .1 .0);
+      sleeper = implies-elim (s .«power_down») (dataOf s .sleeps) (k .1 .1 .1 .1 .1 .1 .1 .1 .1 .0);
       worded = implies-elim (s .aai) (dataOf s .words) (k .1 .1 .1 .1 .1 .1 .1 .1 .1 .1 .0);
       rests = λ a. eqb-true (s .next) 0 (or-imp (s .aai) (eqb (s .next) 0) (m .0) a);
       runs = running s m;
@@ -98,14 +98,14 @@ of-sound s h =
     (all-each (registerClauses s) (
     h .known
     ▹ le-leb (s .bp) 7 (h .level)
-    ▹ le-leb (s .left) (dataOf s .chiptime) (h .timed)
+    ▹ le-leb (s .left) (dataOf s .«chip_time») (h .timed)
     ▹ implies-i (isBusy s) (s .wel) (λ b. h .busy (ltb-true 0 (s .left) b) .enabled)
     ▹ implies-i (isBusy s) (not (s .armed)) (λ b. not-i (s .armed) (h .busy (ltb-true 0 (s .left) b) .disarmed))
-    ▹ implies-i (isBusy s) (not (s .down)) (λ b. not-i (s .down) (h .busy (ltb-true 0 (s .left) b) .awake))
-    ▹ implies-i (s .armed) (not (s .down)) (λ a. not-i (s .down) (h .apart a))
+    ▹ implies-i (isBusy s) (not (s .«power_down»)) (λ b. not-i (s .«power_down») (h .busy (ltb-true 0 (s .left) b) .awake))
+    ▹ implies-i (s .armed) (not (s .«power_down»)) (λ a. not-i (s .«power_down») (h .apart a))
     ▹ implies-i (s .armed) (dataOf s .ewsr || s .wel) (λ a. imp-or (dataOf s .ewsr) (s .wel) (λ w. h .latched w a))
-    ▹ implies-i (s .tb) (dataOf s .topbottom) (h .topped)
-    ▹ implies-i (s .down) (dataOf s .sleeps) (h .sleeper)
+    ▹ implies-i (s .tb) (dataOf s .«top_bottom») (h .topped)
+    ▹ implies-i (s .«power_down») (dataOf s .sleeps) (h .sleeper)
     ▹ implies-i (s .aai) (dataOf s .words) (h .worded)
     ▹ tt
     ))

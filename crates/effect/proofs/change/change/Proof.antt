@@ -1,8 +1,9 @@
 -- `frame::change::change` meets its contract: each arm's run is its effect, address by address.
 -- Assumes nothing.
-use mathlib.Core.Path.{refl, sym}
+use mathlib.Core.Path.{refl, sym, _∙_}
 use native.Mathlib.Omega.{arith}
 use Rattle.common.proofs.Laws.Lists.{mapi-id}
+use Rattle.common.proofs.Laws.Places.{run-within}
 use Rattle.effect.specs.Effect.{touches, struck, changed}
 use borrow.Author.Needs.{needs}
 use Rattle.effect.proofs.change.change.Statement.{statement}
@@ -61,14 +62,20 @@ same-length c = search needs
 
 returns-2 : tie.Need-returns-2
 unfolding changed touches struck
-returns-2 c = rw (c .before .before .before .before .before .e .given .1) (c .before .before .fill-run .ensures)
+returns-2 c =
+    let a = c .before .before .before .before .before .before .before .before .before .args in
+    let e = c .before .before .before .before .before .e .given in
+    rw (e .1) (c .before .before .fill-run .ensures ∙ run-within (e .0 .0) (e .0 .1 .0) _ (a .array .now))
 
 same-length-2 : tie.Need-same-length-2
 same-length-2 c = search needs
 
 returns-3 : tie.Need-returns-3
 unfolding changed touches struck
-returns-3 c = rw (c .before .before .before .before .before .e2 .given .1) (c .before .before .and-run .ensures)
+returns-3 c =
+    let a = c .before .before .before .before .before .before .before .before .before .args in
+    let e = c .before .before .before .before .before .e2 .given in
+    rw (e .1) (c .before .before .and-run .ensures ∙ run-within (e .0 .0) (e .0 .1 .0) _ (a .array .now))
 
 same-length-3 : tie.Need-same-length-3
 same-length-3 c = search needs

@@ -8,7 +8,8 @@ use native.Mathlib.Omega.{arith}
 use lib.ListN.{length, getD, length-set}
 use borrow.Author.Needs.{needs}
 use Rattle.common.specs.Lists.{mapi, upTo}
-use Rattle.common.proofs.Laws.Lists.{loop-start, loop-turn, loop-end, count-turn}
+use Rattle.common.proofs.Laws.Lists.{loop-start, loop-turn, loop-end}
+use Rattle.common.proofs.Laws.Places.{count-turn}
 use Rattle.effect.specs.declared.Effect.{Effect}
 use Rattle.effect.specs.declared.Span.{Span}
 use Rattle.effect.specs.Effect.{spanOf, touches, struck}
