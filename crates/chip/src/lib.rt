@@ -13,14 +13,18 @@ pub struct Chip {
     // 9F answers 8C, family, capacity
     pub family: u8,
     pub capacity: u8,
-    // AB's signature, after so many silent bytes; 90's device ID
+    // AB's signature, after so many silent bytes
     pub signature: u8,
     pub preamble: u8,
+    // 90 answers 8C and this
+    pub device_id: u8,
     // microseconds of a block erase and of a chip erase; nothing takes longer than the latter
     pub block_time: u32,
     pub chip_time: u32,
     // AD programs words (AAI)
-    pub words: bool,
+    pub aai: bool,
+    // plans go by words, else by pages
+    pub word_plans: bool,
     // 50 arms a status write without WEL
     pub ewsr: bool,
     // B9 powers it down
@@ -46,9 +50,11 @@ pub fn chip_of(number: u8) -> Chip
             capacity: 0x14,
             signature: 0x13,
             preamble: 1,
+            device_id: 0x13,
             block_time: 1000000,
             chip_time: 8000000,
-            words: true,
+            aai: true,
+            word_plans: true,
             ewsr: true,
             sleeps: false,
             top_bottom: false,
@@ -63,9 +69,11 @@ pub fn chip_of(number: u8) -> Chip
             capacity: 0x10,
             signature: 0x05,
             preamble: 4,
+            device_id: 0x05,
             block_time: 750000,
             chip_time: 1000000,
-            words: false,
+            aai: false,
+            word_plans: false,
             ewsr: false,
             sleeps: true,
             top_bottom: true,

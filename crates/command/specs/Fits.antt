@@ -38,7 +38,7 @@ pub record Open (s : State) (end : ℕ) : Type 0 where
   pub free : end ≤ firstProtected s
 
 pub record Words (s : State) (address : ℕ) : Type 0 where
-  pub worded : dataOf s .words ≡ true
+  pub worded : dataOf s .aai ≡ true
   pub still : s .left ≡ 0
   pub awake : s .«power_down» ≡ false
   pub even : address % 2 ≡ 0

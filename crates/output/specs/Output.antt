@@ -43,7 +43,7 @@ jedec s i = cond (eqb i 1) 0x8c (cond (eqb i 2) (dataOf s .family) (cond (eqb i 
 
 -- "8C and device ID by turns, device ID first if address bit 0 is 1"
 abbrev pub identity : State → Bool → ℕ → ℕ
-identity s odd i = cond (eqb (i % 2) 0) (cond odd (dataOf s .signature) 0x8c) (cond odd 0x8c (dataOf s .signature))
+identity s odd i = cond (eqb (i % 2) 0) (cond odd (dataOf s .«device_id») 0x8c) (cond odd 0x8c (dataOf s .«device_id»))
 
 unfoldable pub shownAt : State → Command → (ℕ → ℕ) → ℕ → ℕ
 shownAt s Ignored m i = 255

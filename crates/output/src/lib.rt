@@ -37,7 +37,7 @@ fn jedec_byte(s: State, i: usize) -> u8
 fn identity_byte(s: State, odd: bool, i: usize) -> u8
     ensures { λ r. ⌜ r ≡ identity s odd i ⌝ }
 {
-    let id = chip::chip_of(s.chip).signature;
+    let id = chip::chip_of(s.chip).device_id;
     if i % 2 == 0 {
         if odd { id } else { 0x8c }
     } else {

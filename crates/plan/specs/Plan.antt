@@ -42,7 +42,7 @@ programStep words array start wanted = cond words (stepTwo array start wanted) (
 unfoldable pub planRecords : State → List ℕ → ℕ → List ℕ → List Record
 planRecords s array start wanted =
     statusStep (stepOneNeeded s array start wanted) s 0  -- step 1: BP 000
-    ++ (programStep (dataOf s .words) array start wanted  -- step 2 or 3
+    ++ (programStep (dataOf s .«word_plans») array start wanted  -- step 2 or 3
     ++ statusStep (stepOneNeeded s array start wanted) s (s .bp))  -- step 4: "after step 1, the same two frames with the old BP"
 
 -- what a plan amounts to, from what its step 2 or 3 does: steps 1 and 4 are two frames each, of one and two bytes

@@ -92,7 +92,7 @@ fn measure_plan(s: State, needed: bool, array: &[u8], start: usize, wanted: &[u8
     requires { ⌜ needed ≡ stepOneNeeded s (now array) start (now wanted) ⌝ }
     ensures { λ r. ⌜ r ≡ measureOf (planRecords s (now (array .entry)) start (now (wanted .entry))) ⌝ }
 {
-    let words = chip::chip_of(s.chip).words;
+    let words = chip::chip_of(s.chip).word_plans;
     status::with_status(needed, measure_program(words, array, start, wanted))
 }
 
@@ -131,7 +131,7 @@ fn put_plan(
     requires { ⌜ length (encode (planRecords s (now array) start (now wanted))) ≤ length (now buffer) ⌝ }
     ensures { λ r. ⌜ Put 0 (encode (planRecords s (now (array .entry)) start (now (wanted .entry)))) (now (buffer .entry)) (now (buffer .exit)) r ⌝ }
 {
-    let words = chip::chip_of(s.chip).words;
+    let words = chip::chip_of(s.chip).word_plans;
     let unprotected = status::put_status(needed, s, 0, buffer, 0);
     let programmed = put_program(words, array, start, wanted, buffer, unprotected);
     status::put_status(needed, s, s.bp, buffer, programmed)

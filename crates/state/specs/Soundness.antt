@@ -36,7 +36,7 @@ registerClauses s =
     ∷ implies (s .armed) (dataOf s .ewsr || s .wel)  -- "on the 05PA armed needs WEL 1"
     ∷ implies (s .tb) (dataOf s .«top_bottom»)  -- "no TB
     ∷ implies (s .«power_down») (dataOf s .sleeps)  -- or power-down on the 008A"
-    ∷ implies (s .aai) (dataOf s .words)  -- "no AAI on the 05PA"
+    ∷ implies (s .aai) (dataOf s .aai)  -- "no AAI on the 05PA"
     ∷ []
 
 abbrev pub aaiClauses : State → List Bool
@@ -79,6 +79,6 @@ pub record Sound (s : State) : Type 0 where
   pub latched : dataOf s .ewsr ≡ false → s .armed ≡ true → s .wel ≡ true
   pub topped : s .tb ≡ true → dataOf s .«top_bottom» ≡ true
   pub sleeper : s .«power_down» ≡ true → dataOf s .sleeps ≡ true
-  pub worded : s .aai ≡ true → dataOf s .words ≡ true
+  pub worded : s .aai ≡ true → dataOf s .aai ≡ true
   pub rests : s .aai ≡ false → s .next ≡ 0
   pub runs : s .aai ≡ true → Running s

@@ -18,7 +18,7 @@ fn registers_sound(s: State) -> bool
         & (!s.armed | (chip.ewsr | s.wel))
         & (!s.tb | chip.top_bottom)
         & (!s.power_down | chip.sleeps)
-        & (!s.aai | chip.words)
+        & (!s.aai | chip.aai)
 }
 
 fn aai_sound(s: State) -> bool

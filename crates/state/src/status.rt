@@ -11,6 +11,6 @@ pub fn status_of(s: State) -> u8
         + common::bit_of(s.wel, 2)
         + s.bp % 8 * 4
         + common::bit_of(chip.top_bottom & s.tb, 32)
-        + common::bit_of(chip.words & s.aai, 64)
+        + common::bit_of(chip.aai & s.aai, 64)
         + common::bit_of(s.bpl, 128)
 }

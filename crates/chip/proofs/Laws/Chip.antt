@@ -19,7 +19,7 @@ pub record Regular (k : Chip) : Type 0 where
   pub sector-le : 90000 ≤ k .«chip_time»
   pub level-le : k .«new_level» ≤ 7
   -- AAI and power-down: no chip has both
-  pub apart : k .words ≡ true → k .sleeps ≡ true → ⊥
+  pub apart : k .aai ≡ true → k .sleeps ≡ true → ⊥
   -- levels of protection: the table's size
   pub leveled : k .graded ≡ true → k .size ≡ 1048576
 

@@ -48,7 +48,7 @@ use Rattle.command.proofs.Laws.Rows.{AllRows, look-elim}
 
 abbrev hasKind : Chip → ℕ → Bool
 hasKind k kind =
-    implies (eqb kind aaiProgram) (k .words) && implies (eqb kind ewsr) (k .ewsr) && implies (eqb kind deepPowerDown) (k .sleeps)
+    implies (eqb kind aaiProgram) (k .aai) && implies (eqb kind ewsr) (k .ewsr) && implies (eqb kind deepPowerDown) (k .sleeps)
 
 -- of each instruction's kind, and of the unknown
 abbrev haveKinds : Chip → List (ℕ × ℕ) → Bool
@@ -69,19 +69,19 @@ module _ (chip op : ℕ) where
   kinds : hasKind (chipOf chip) (kindOf chip op) ≡ true
   kinds = kind-has chip op
 
-  two : (implies (eqb (kindOf chip op) aaiProgram) (chipOf chip .words) && implies (eqb (kindOf chip op) ewsr) (chipOf chip .ewsr)) ≡ true
-  two = and-l (implies (eqb (kindOf chip op) aaiProgram) (chipOf chip .words) && implies (eqb (kindOf chip op) ewsr) (chipOf chip .ewsr)) _ kinds
+  two : (implies (eqb (kindOf chip op) aaiProgram) (chipOf chip .aai) && implies (eqb (kindOf chip op) ewsr) (chipOf chip .ewsr)) ≡ true
+  two = and-l (implies (eqb (kindOf chip op) aaiProgram) (chipOf chip .aai) && implies (eqb (kindOf chip op) ewsr) (chipOf chip .ewsr)) _ kinds
 
-  aai-words : kindOf chip op ≡ aaiProgram → chipOf chip .words ≡ true
-  aai-words e = implies-elim (eqb (kindOf chip op) aaiProgram) (chipOf chip .words) (and-l (implies (eqb (kindOf chip op) aaiProgram) (chipOf chip .words)) _ two) (eq-eqb _ aaiProgram e)
+  aai-words : kindOf chip op ≡ aaiProgram → chipOf chip .aai ≡ true
+  aai-words e = implies-elim (eqb (kindOf chip op) aaiProgram) (chipOf chip .aai) (and-l (implies (eqb (kindOf chip op) aaiProgram) (chipOf chip .aai)) _ two) (eq-eqb _ aaiProgram e)
 
   ewsr-arms : kindOf chip op ≡ ewsr → chipOf chip .ewsr ≡ true
-  ewsr-arms e = implies-elim (eqb (kindOf chip op) ewsr) (chipOf chip .ewsr) (and-r (implies (eqb (kindOf chip op) aaiProgram) (chipOf chip .words)) _ two) (eq-eqb _ ewsr e)
+  ewsr-arms e = implies-elim (eqb (kindOf chip op) ewsr) (chipOf chip .ewsr) (and-r (implies (eqb (kindOf chip op) aaiProgram) (chipOf chip .aai)) _ two) (eq-eqb _ ewsr e)
 
   power-down-sleeps : kindOf chip op ≡ deepPowerDown → chipOf chip .sleeps ≡ true
   power-down-sleeps e =
       implies-elim (eqb (kindOf chip op) deepPowerDown) (chipOf chip .sleeps)
-      (and-r (implies (eqb (kindOf chip op) aaiProgram) (chipOf chip .words) && implies (eqb (kindOf chip op) ewsr) (chipOf chip .ewsr)) _ kinds)
+      (and-r (implies (eqb (kindOf chip op) aaiProgram) (chipOf chip .aai) && implies (eqb (kindOf chip op) ewsr) (chipOf chip .ewsr)) _ kinds)
       (eq-eqb _ deepPowerDown e)
 
 -- ---- the rows fit

@@ -117,7 +117,7 @@ module _ (s : State) (array : List ℕ) (start : ℕ) (wanted : List ℕ) where
   needed = stepOneNeeded s array start wanted
 
   abbrev programs : List Record
-  programs = programStep (dataOf s .words) array start wanted
+  programs = programStep (dataOf s .«word_plans») array start wanted
 
   pub plan-measure : measureOf (planRecords s array start wanted) ≡ withStatus needed (measureOf programs)
   unfolding planRecords
@@ -140,7 +140,7 @@ module _ (s : State) (array : List ℕ) (start : ℕ) (wanted : List ℕ) where
         script-length-append programs (statusStep needed s (s .bp)),
         status-le s 0 needed,
         status-le s (s .bp) needed,
-        program-le (dataOf s .words) array start wanted h,
+        program-le (dataOf s .«word_plans») array start wanted h,
       )
 
   -- every record of a plan fits a script
@@ -148,7 +148,7 @@ module _ (s : State) (array : List ℕ) (start : ℕ) (wanted : List ℕ) where
   unfolding planRecords
   plan-fits =
       all-fit-append (statusStep needed s 0) (programs ++ statusStep needed s (s .bp)) (status-fits s 0 needed)
-      (all-fit-append programs (statusStep needed s (s .bp)) (program-fits (dataOf s .words) array start wanted) (status-fits s (s .bp) needed))
+      (all-fit-append programs (statusStep needed s (s .bp)) (program-fits (dataOf s .«word_plans») array start wanted) (status-fits s (s .bp) needed))
 
   -- so the runner and the reader meet neither 11 nor 12 in it: it is read back as its records
   pub plan-reads-back : decode (encode (planRecords s array start wanted)) ≡ records (planRecords s array start wanted)
@@ -159,14 +159,14 @@ module _ (s : State) (array : List ℕ) (start : ℕ) (wanted : List ℕ) where
   unfolding planRecords stepOneNeeded
   plan-none h =
       let n : stepOneNeeded s array start wanted ≡ false = any-none _ (length wanted) start (λ k i j. rw (h k) refl) in
-      rw (n, program-none (dataOf s .words) array start wanted h) refl
+      rw (n, program-none (dataOf s .«word_plans») array start wanted h) refl
 
   plan-unchanged : planRecords s array start wanted ≡ [] → (k : ℕ) → changes array start wanted k ≡ false
   unfolding planRecords
   plan-unchanged e k =
       let none = middle-none (statusStep needed s 0) programs (statusStep needed s (s .bp)) e in
       ⊎-elim (λ h. changes-before array start wanted k h)
-      (λ h. ⊎-elim (λ l. program-unchanged (dataOf s .words) array start wanted none k h l) (λ l. changes-behind array start wanted k l)
+      (λ h. ⊎-elim (λ l. program-unchanged (dataOf s .«word_plans») array start wanted none k h l) (λ l. changes-behind array start wanted k l)
       (split k (start + length wanted))) (split k start)
 
   pub plan-empty-exactly : Exactly (planRecords s array start wanted ≡ []) ((k : ℕ) → changes array start wanted k ≡ false)

@@ -14,7 +14,7 @@ use Rattle.plan.proofs.put_plan.Tie as tie
 -- all of it is left before the first call
 begun : (c : tie.Start) → let a = c .args in
     Whole 0 (encode (statusStep (a .needed) (a .s) 0)
-    ++ (encode (programStep (dataOf (a .s) .words) (a .array .now) (a .start) (a .wanted .now)) ++ encode (statusStep (a .needed) (a .s) (a .s .bp)))) (a .buffer .now)
+    ++ (encode (programStep (dataOf (a .s) .«word_plans») (a .array .now) (a .start) (a .wanted .now)) ++ encode (statusStep (a .needed) (a .s) (a .s .bp)))) (a .buffer .now)
 begun c = let a = c .args in left-start _ _ _ (rw (← plan-bytes (a .s) (a .array .now) (a .start) (a .wanted .now) (a .needed) (c .pre .1 .1 .0)) (omega arith))
 
 chip-of-requires : tie.Need-chip-of-requires
@@ -27,7 +27,7 @@ put-program-requires : tie.Need-put-program-requires
 put-program-requires c κs =
     let a = c .before .before .before .before .before .before .before .before .before .args in (
       c .before .before .before .before .before .before .before .before .before .pre .0,
-      rw (c .before .before .before .before .before .chip-of .ensures) (left-room (encode (programStep (dataOf (a .s) .words) (a .array .now) (a .start) (a .wanted .now))) _
+      rw (c .before .before .before .before .before .chip-of .ensures) (left-room (encode (programStep (dataOf (a .s) .«word_plans») (a .array .now) (a .start) (a .wanted .now))) _
           (left-turn _ _ (begun (c .before .before .before .before .before .before .before .before .before)) (c .before .before .before .put-status .ensures))),
     )
 

@@ -62,7 +62,7 @@ empty-script-turned-away s wp array start wanted room k low i differs h =
 
 -- a planner without steps 1 and 4
 abbrev pub withoutStatus : Planner
-withoutStatus s array start wanted = programStep (dataOf s .words) array start wanted
+withoutStatus s array start wanted = programStep (dataOf s .«word_plans») array start wanted
 
 -- a planner that sends a byte outside the region as 00
 abbrev pub zeroOutside : Planner

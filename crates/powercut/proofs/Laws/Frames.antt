@@ -32,8 +32,8 @@ record Opcodes (k : Chip) (is : List (ℕ × ℕ)) : Type 0 where
   disables : kindIn is 0x04 ≡ wrdi
   writes : kindIn is 0x01 ≡ wrsr
   arms : k .ewsr ≡ true → kindIn is 0x50 ≡ ewsr
-  words : k .words ≡ true → kindIn is 0xad ≡ aaiProgram
-  pages : k .words ≡ false → kindIn is 0x02 ≡ pageProgram
+  words : k .«word_plans» ≡ true → kindIn is 0xad ≡ aaiProgram
+  pages : k .«word_plans» ≡ false → kindIn is 0x02 ≡ pageProgram
 
 opcodes : (n : ℕ) → Opcodes (chipOf n) (instructionsOf n)
 unfolding chipOf
@@ -88,7 +88,7 @@ is-open s end e h = and-i e (le-leb end (firstProtected s) h)
 -- ---- words
 
 module _ (wp : Bool) (s : State) (bp : ℕ) where
-  pub word-first : (armed : Bool) (a x y : ℕ) → dataOf s .words ≡ true → a < dataOf s .size → a % 2 ≡ 0 → a + 2 ≤ border s bp
+  pub word-first : (armed : Bool) (a x y : ℕ) → dataOf s .«word_plans» ≡ true → a < dataOf s .size → a % 2 ≡ 0 → a + 2 ≤ border s bp
       → commandOf (rest s bp true armed) wp (0xad ∷ (addressBytes a ++ (x ∷ y ∷ []))) ≡ ProgramWord a 4
   unfolding commandOf byKind kindOf
   word-first armed a x y words low even free =
@@ -126,7 +126,7 @@ module _ (s : State) (bp a : ℕ) where
 -- ---- pages
 
 module _ (wp : Bool) (s : State) (bp : ℕ) where
-  pub page-sent : (armed : Bool) (a x : ℕ) (sent : List ℕ) → dataOf s .words ≡ false → a < border s bp
+  pub page-sent : (armed : Bool) (a x : ℕ) (sent : List ℕ) → dataOf s .«word_plans» ≡ false → a < border s bp
       → commandOf (rest s bp true armed) wp (0x02 ∷ (addressBytes a ++ (x ∷ sent))) ≡ ProgramPage a (length (x ∷ sent))
   unfolding commandOf byKind kindOf
   page-sent armed a x sent pages free =

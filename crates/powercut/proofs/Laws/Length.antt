@@ -138,15 +138,15 @@ module _ (now before : List ℕ) (start : ℕ) (wanted : List ℕ) (fewer : (k :
       → length (encode (planRecords s now start wanted)) ≤ length (encode (planRecords s₀ before start wanted)) + 22
   unfolding measureOf
   plan-22-longer s s₀ e =
-      let same : dataOf s .words ≡ dataOf s₀ .words = rw e refl in
-      let step : scriptLength (programStep (dataOf s .words) now start wanted) ≤ scriptLength (programStep (dataOf s₀ .words) before start wanted) =
-      rw same (program-no-longer (dataOf s₀ .words)) in
+      let same : dataOf s .«word_plans» ≡ dataOf s₀ .«word_plans» = rw e refl in
+      let step : scriptLength (programStep (dataOf s .«word_plans») now start wanted) ≤ scriptLength (programStep (dataOf s₀ .«word_plans») before start wanted) =
+      rw same (program-no-longer (dataOf s₀ .«word_plans»)) in
       omega (
         arith,
         encoded-length (planRecords s now start wanted),
         encoded-length (planRecords s₀ before start wanted),
         ap (λ (m : Measure). m .length) (plan-measure s now start wanted),
         ap (λ (m : Measure). m .length) (plan-measure s₀ before start wanted),
-        status-length (stepOneNeeded s now start wanted) (measureOf (programStep (dataOf s .words) now start wanted)) .1,
-        status-length (stepOneNeeded s₀ before start wanted) (measureOf (programStep (dataOf s₀ .words) before start wanted)) .0,
+        status-length (stepOneNeeded s now start wanted) (measureOf (programStep (dataOf s .«word_plans») now start wanted)) .1,
+        status-length (stepOneNeeded s₀ before start wanted) (measureOf (programStep (dataOf s₀ .«word_plans») before start wanted)) .0,
       )

@@ -50,7 +50,7 @@ module _ (w : ℕ → ℕ) (a n : ℕ) (one-page : a % 256 + n ≤ 256) where
   unfolding touches
   page-touches k h l = rw straight (within-yes a n k h l)
 
-module _ (t : Task) (d : ℕ → Bool) (bp : ℕ) (held : HeldBy (t .state) (rest (t .state) bp false false)) (no-words : dataOf (t .state) .words ≡ false)
+module _ (t : Task) (d : ℕ → Bool) (bp : ℕ) (held : HeldBy (t .state) (rest (t .state) bp false false)) (no-words : dataOf (t .state) .«word_plans» ≡ false)
     (calm : (k : ℕ) → d k ≡ false → k < length (t .array) → Settled (t .want) (t .array) k)
     (free : (k : ℕ) → d k ≡ true → k < border (t .state) bp) where
   abbrev s : State

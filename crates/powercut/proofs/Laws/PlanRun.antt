@@ -85,11 +85,11 @@ module _ (given : State) (bp : ℕ) (wel armed : Bool) (wp : Bool) (array : List
   -- steps 2 and 3, at the given level or at 000
   program-ran : (to : ℕ) → (to ≡ bp) ⊎ (to ≡ 0) → ((k : ℕ) → changes array start wanted k ≡ true → k < border s to)
       → (wel armed : Bool) (now : List ℕ) → OnItsWay task now
-      → Runs task (stateAfterPlan (programStep (dataOf s .words) array start wanted) (rest s to wel armed)) end
-      (programStep (dataOf s .words) array start wanted) (rest s to wel armed) now
+      → Runs task (stateAfterPlan (programStep (dataOf s .«word_plans») array start wanted) (rest s to wel armed)) end
+      (programStep (dataOf s .«word_plans») array start wanted) (rest s to wel armed) now
   unfolding programStep
   program-ran to level free wel armed now near =
-      cases (dataOf s .words)
+      cases (dataOf s .«word_plans»)
       (λ w. rw w
       (words-ran task (changes array start wanted) to (held-at s to level) w (calm array start wanted bytes) free (wordsIn start (length wanted)) (start / 2 * 2) end wel armed now
       (omega arith) (omega arith) near (started (start / 2 * 2) now (omega arith) near)))
@@ -98,7 +98,7 @@ module _ (given : State) (bp : ℕ) (wel armed : Bool) (wp : Bool) (array : List
       (omega arith) (omega arith) near (started (start / 256 * 256) now (omega arith) near)))
 
   abbrev programs : List Record
-  programs = programStep (dataOf s .words) array start wanted
+  programs = programStep (dataOf s .«word_plans») array start wanted
 
   sound : Sound s
   sound = sound-of s (accepted .region .sound)

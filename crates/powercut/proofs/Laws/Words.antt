@@ -54,7 +54,7 @@ word-programs w a i f x y = program-programs w f a 2 i sent
     sent (suc zero) h = y
     sent (suc (suc j)) h = absurd (omega arith)
 
-module _ (t : Task) (d : ℕ → Bool) (bp : ℕ) (held : HeldBy (t .state) (rest (t .state) bp false false)) (has-words : dataOf (t .state) .words ≡ true)
+module _ (t : Task) (d : ℕ → Bool) (bp : ℕ) (held : HeldBy (t .state) (rest (t .state) bp false false)) (has-words : dataOf (t .state) .«word_plans» ≡ true)
     (calm : (k : ℕ) → d k ≡ false → k < length (t .array) → Settled (t .want) (t .array) k)
     (free : (k : ℕ) → d k ≡ true → k < border (t .state) bp) where
   abbrev s : State

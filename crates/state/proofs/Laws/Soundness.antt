@@ -71,7 +71,7 @@ sound-of s e =
       latched = λ w a. or-imp (dataOf s .ewsr) (s .wel) (implies-elim (s .armed) (dataOf s .ewsr || s .wel) (k .1 .1 .1 .1 .1 .1 .1 .0) a) w;
       topped = implies-elim (s .tb) (dataOf s .«top_bottom») (k .1 .1 .1 .1 .1 .1 .1 .1 .0);
       sleeper = implies-elim (s .«power_down») (dataOf s .sleeps) (k .1 .1 .1 .1 .1 .1 .1 .1 .1 .0);
-      worded = implies-elim (s .aai) (dataOf s .words) (k .1 .1 .1 .1 .1 .1 .1 .1 .1 .1 .0);
+      worded = implies-elim (s .aai) (dataOf s .aai) (k .1 .1 .1 .1 .1 .1 .1 .1 .1 .1 .0);
       rests = λ a. eqb-true (s .next) 0 (or-imp (s .aai) (eqb (s .next) 0) (m .0) a);
       runs = running s m;
     }
@@ -106,7 +106,7 @@ of-sound s h =
     ▹ implies-i (s .armed) (dataOf s .ewsr || s .wel) (λ a. imp-or (dataOf s .ewsr) (s .wel) (λ w. h .latched w a))
     ▹ implies-i (s .tb) (dataOf s .«top_bottom») (h .topped)
     ▹ implies-i (s .«power_down») (dataOf s .sleeps) (h .sleeper)
-    ▹ implies-i (s .aai) (dataOf s .words) (h .worded)
+    ▹ implies-i (s .aai) (dataOf s .aai) (h .worded)
     ▹ tt
     ))
     (all-each (aaiClauses s) (of-running s (h .runs) (h .rests)))
