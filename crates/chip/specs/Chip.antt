@@ -1,8 +1,10 @@
--- The two chips: all that differs between them (01, "The two chips and what is modelled"). A further chip is one more value.
+-- The chips: all that differs between them (01, "The two chips and what is modelled"). A further chip is one more value, in `models`.
 use mathlib.Core.Bool.{Bool, true, false, _||_, cond}
+use mathlib.Core.List.{List, [], _∷_}
 use Prim.Native.Nat.{ℕ}
 use lib.Dec.{eqb}
 use Rattle.chip.specs.declared.Chip.{Chip}
+use Rattle.chip.specs.Instructions.{instructions008A, instructions05PA, kindIn}
 
 -- The F25L008A (000).
 abbrev pub f25l008a : Chip
@@ -46,10 +48,45 @@ f25l05pa = record {
   keeps = true;  -- Table 2, note 2
 }
 
--- the chip numbers (ours)
-unfoldable pub isKnown : ℕ → Bool
-isKnown number = eqb number 8 || eqb number 5
+-- a chip that is known: its number (01), its data and its instructions
+pub record Model : Type 0 where
+  pub number : ℕ
+  pub chip : Chip
+  pub instructions : List (ℕ × ℕ)
 
--- the chip of a number; of an unknown one the F25L05PA (ours)
+abbrev pub model008A : Model
+model008A = record { number = 8; chip = f25l008a; instructions = instructions008A }
+
+abbrev pub model05PA : Model
+model05PA = record { number = 5; chip = f25l05pa; instructions = instructions05PA }
+
+abbrev pub models : List Model
+models = model008A ∷ model05PA ∷ []
+
+-- some model has the number
+abbrev pub numberIn : List Model → ℕ → Bool
+numberIn [] number = false
+numberIn (m ∷ ms) number = eqb number (m .number) || numberIn ms number
+
+-- the first model that has the number, else the one that stands in
+abbrev pub modelIn : List Model → Model → ℕ → Model
+modelIn [] other number = other
+modelIn (m ∷ ms) other number = cond (eqb number (m .number)) m (modelIn ms other number)
+
+unfoldable pub isKnown : ℕ → Bool
+isKnown number = numberIn models number
+
+-- of an unknown number the F25L05PA (ours)
+abbrev pub modelOf : ℕ → Model
+modelOf number = modelIn models model05PA number
+
+-- the data of the chip of a number
 unfoldable pub chipOf : ℕ → Chip
-chipOf number = cond (eqb number 8) f25l008a f25l05pa
+chipOf number = modelOf number .chip
+
+abbrev pub instructionsOf : ℕ → List (ℕ × ℕ)
+instructionsOf number = modelOf number .instructions
+
+-- an opcode's kind on the chip of a number
+unfoldable pub kindOf : ℕ → ℕ → ℕ
+kindOf number op = kindIn (instructionsOf number) op

@@ -69,10 +69,3 @@ instructions05PA =
 abbrev pub kindIn : List (ℕ × ℕ) → ℕ → ℕ
 kindIn [] op = unknown
 kindIn (i ∷ is) op = cond (eqb op (i .0)) (i .1) (kindIn is op)
-
-abbrev pub instructionsOf : ℕ → List (ℕ × ℕ)
-instructionsOf chip = cond (eqb chip 8) instructions008A instructions05PA
-
--- an opcode's kind on the chip of a number
-unfoldable pub kindOf : ℕ → ℕ → ℕ
-kindOf chip op = kindIn (instructionsOf chip) op

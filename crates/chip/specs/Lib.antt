@@ -1,3 +1,3 @@
 pub mod Kinds
-pub mod Chip
 pub mod Instructions
+pub mod Chip

@@ -1,11 +1,11 @@
 // The chips: all that differs between them, one value a chip, and a table of 256 kinds of instructions each.
-pub mod f25l008a;
-pub mod f25l05pa;
+mod f25l008a;
+mod f25l05pa;
 pub mod kinds;
 
 ghost use mathlib.Core.Path.{_≡_};
-ghost use Rattle.chip.specs.Chip.{chipOf, isKnown};
-ghost use Rattle.chip.specs.Instructions.{instructions008A, instructions05PA, kindIn, kindOf};
+ghost use Rattle.chip.specs.Instructions.{instructions008A, instructions05PA, kindIn};
+ghost use Rattle.chip.specs.Chip.{isKnown, chipOf, kindOf};
 
 pub struct Chip {
     // bytes of the array

@@ -1,3 +1,4 @@
 pub mod Rows
 pub mod Fits
 pub mod Carries
+pub mod Sent

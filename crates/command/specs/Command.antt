@@ -4,6 +4,7 @@ use mathlib.Core.List.{List, [], _∷_}
 use Prim.Native.Nat.{ℕ, _+_, _-_, _*_, _/_, _%_}
 use lib.Dec.{leb, ltb, eqb}
 use lib.ListN.{getD, length}
+use Rattle.common.specs.Numbers.{threeBytes}
 use Rattle.state.specs.declared.State.{State}
 use Rattle.state.specs.State.{dataOf}
 use Rattle.state.specs.Protection.{firstProtected}
@@ -26,7 +27,7 @@ use Rattle.chip.specs.Kinds.{
   jedecId,
   rdid,
 }
-use Rattle.chip.specs.Instructions.{kindOf}
+use Rattle.chip.specs.Chip.{kindOf}
 use Rattle.command.specs.declared.Command.{Command}
 use Rattle.command.specs.declared.Command.the-variants.{
   Ignored,
@@ -58,7 +59,7 @@ long f n = eqb (length f) n
 
 -- "three bytes, high byte first, taken modulo the chip's size"
 unfoldable pub address : State → List ℕ → ℕ
-address s f = (getD f 1 0 * 65536 + getD f 2 0 * 256 + getD f 3 0) % (dataOf s .size)
+address s f = threeBytes (getD f 1 0) (getD f 2 0) (getD f 3 0) % (dataOf s .size)
 
 -- "Program and erase need WEL 1 and an unprotected target": one that ends at or below the first protected address
 unfoldable pub writable : State → ℕ → Bool

@@ -1,6 +1,6 @@
 -- What holds of a state and the command that a frame is at it: a taken command was allowed there, and touches what the array has.
 use mathlib.Core.Path.{_≡_}
-use mathlib.Core.Bool.{Bool, true, false}
+use mathlib.Core.Bool.{true, false}
 use mathlib.Core.List.{List}
 use Prim.Native.Nat.{ℕ, _+_, _%_, _≤_, _<_}
 use lib.ListN.{length}
@@ -38,7 +38,7 @@ pub record Open (s : State) (end : ℕ) : Type 0 where
   pub free : end ≤ firstProtected s
 
 pub record Words (s : State) (address : ℕ) : Type 0 where
-  pub worded : dataOf s .aai ≡ true
+  pub aai-had : dataOf s .aai ≡ true
   pub still : s .left ≡ 0
   pub awake : s .«power_down» ≡ false
   pub even : address % 2 ≡ 0

@@ -1,5 +1,5 @@
 // A frame understood: what document 01's table says of it, with all that the row needs worked out.
-pub mod rows;
+mod rows;
 pub mod understand;
 
 pub enum Command {

@@ -2,10 +2,9 @@
 use crate::Command;
 use state::State;
 ghost use mathlib.Core.Path.{_≡_};
-ghost use mathlib.Core.Bool.{cond, true, false, not, _||_};
 ghost use Prim.Native.Nat.{_+_, _*_, _/_, _%_, _<_, _≤_};
-ghost use lib.Dec.{eqb, leb};
-ghost use lib.ListN.{getD, length};
+ghost use lib.Dec.{eqb};
+ghost use lib.ListN.{length};
 ghost use Rattle.common.specs.Limits.{longestFrame};
 ghost use Rattle.state.specs.State.{dataOf};
 ghost use Rattle.command.specs.Command.{when, long, address, writable, erase, eraseChip, programByte, programPage, writeStatus};

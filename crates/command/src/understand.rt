@@ -6,7 +6,7 @@ use state::State;
 ghost use mathlib.Core.Path.{_≡_};
 ghost use mathlib.Core.List.{[], _∷_};
 ghost use Prim.Native.Nat.{_<_, _≤_};
-ghost use lib.ListN.{getD, length};
+ghost use lib.ListN.{length};
 ghost use Rattle.common.specs.Limits.{longestFrame};
 ghost use Rattle.command.specs.Command.{look, byKind, inAai, commandOf};
 

@@ -1,4 +1,4 @@
-// What every layer uses: bytes of a slice, read without a fault at any index, and runs of them.
+// What every layer uses: bytes of a slice, read without a fault at any index, runs of them, and numbers as bytes.
 pub mod buffer;
 pub mod limits;
 pub mod refusals;
@@ -9,6 +9,7 @@ ghost use Prim.Native.Nat.{_-_, _<_, _≤_, min, max};
 ghost use lib.ListN.{getD};
 ghost use Rattle.common.specs.Bits.{bit};
 ghost use Rattle.common.specs.Lists.{within};
+ghost use Rattle.common.specs.Numbers.{addressBytes};
 
 // The byte at an index, 0 past the end.
 pub fn byte_at(bytes: &[u8], i: usize) -> u8
@@ -54,4 +55,15 @@ pub fn is_within(start: u32, count: u32, k: usize) -> bool
     ensures { λ r. ⌜ r ≡ within start count k ⌝ }
 {
     (start as usize <= k) & (k < start as usize + count as usize)
+}
+
+// An address as three bytes, high byte first.
+pub fn address_bytes(address: usize) -> [u8; 3]
+    ensures { λ r. ⌜ r ≡ addressBytes address ⌝ }
+{
+    [
+        (address / 65536 % 256) as u8,
+        (address / 256 % 256) as u8,
+        (address % 256) as u8,
+    ]
 }

@@ -1,5 +1,7 @@
 pub mod Effect
-pub mod Turn
+pub mod Straight
+mod Turn
 pub mod Mask
 pub mod Page
 pub mod Cut
+pub mod Rise

@@ -1,5 +1,5 @@
--- An interrupted frame (01, "Interrupted frame"; this model of a cut is ours).
-use mathlib.Core.Bool.{Bool, cond}
+-- An interrupted frame (01, "Interrupted frame": "This model of a cut is ours.").
+use mathlib.Core.Bool.{cond}
 use mathlib.Core.List.{List}
 use Prim.Native.Nat.{ℕ, _-_}
 use lib.Bits.{bitAnd, bitOr}

@@ -1,5 +1,5 @@
 -- What a command does to the array (01, "Frames"): which addresses it touches, and the byte that each gets.
-use mathlib.Core.Bool.{Bool, true, false, _&&_, cond}
+use mathlib.Core.Bool.{Bool, false, _&&_, cond}
 use mathlib.Core.List.{List}
 use Prim.Native.Nat.{ℕ, _+_, _-_, _*_, _/_, _%_, _≤_}
 use lib.Bits.{bitAnd}

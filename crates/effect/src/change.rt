@@ -1,7 +1,7 @@
 // The array changed by an effect: whole, or as a power cut leaves it.
 use crate::Effect;
 ghost use mathlib.Core.Path.{_≡_};
-ghost use mathlib.Core.Bool.{cond, true, false};
+ghost use mathlib.Core.Bool.{cond};
 ghost use Prim.Native.Nat.{_+_, _<_, _≤_};
 ghost use lib.ListN.{length};
 ghost use Rattle.common.specs.Lists.{mapi};
@@ -75,12 +75,6 @@ fn cut_byte(e: Effect, input: &[u8], k: usize, old: u8, mask: u8) -> u8
     }
 }
 
-fn one_if(test: bool) -> usize
-    ensures { λ r. ⌜ (r ≡ cond test 1 0) × (r ≤ 1) ⌝ }
-{
-    if test { 1 } else { 0 }
-}
-
 // Cut by a mask, one byte for each touched address, by rising address.
 pub fn cut_change(array: &mut [u8], e: Effect, input: &[u8], mask: &[u8])
     requires { ⌜ (spanOf e .lo ≤ spanOf e .hi) × (spanOf e .hi ≤ length (now array)) × (length (now array) < 4294967296) ⌝ }
@@ -92,7 +86,7 @@ pub fn cut_change(array: &mut [u8], e: Effect, input: &[u8], mask: &[u8])
     let mut place = 0;
     while k < hi {
         array[k] = cut_byte(e, input, k, array[k], common::byte_at(mask, place));
-        place += one_if(crate::is_touched(e, k));
+        place += crate::is_touched(e, k) as usize;
         k += 1;
     }
 }

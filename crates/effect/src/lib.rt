@@ -16,9 +16,9 @@ pub enum Effect {
 }
 
 // The addresses lo up to hi: all touched ones are among them.
-pub struct Span {
-    pub lo: usize,
-    pub hi: usize,
+struct Span {
+    lo: usize,
+    hi: usize,
 }
 
 // A page program that stays below the page's end, or goes round.
@@ -35,7 +35,7 @@ pub fn page_effect(address: u32, count: u32) -> Effect
     Effect::Round { address, count }
 }
 
-pub fn span_of(e: Effect) -> Span
+fn span_of(e: Effect) -> Span
     ensures { λ r. ⌜ r ≡ spanOf e ⌝ }
 {
     match e {
@@ -67,7 +67,7 @@ fn turn_of(address: u32, k: usize) -> usize
     (k + (256 - address as usize % 256)) % 256
 }
 
-pub fn is_touched(e: Effect, k: usize) -> bool
+fn is_touched(e: Effect, k: usize) -> bool
     requires { ⌜ k < 4294967296 ⌝ }
     ensures { λ r. ⌜ r ≡ touches e k ⌝ }
 {
@@ -95,7 +95,7 @@ fn last_for(address: u32, count: u32, k: usize) -> usize
 }
 
 // The byte that a touched address gets.
-pub fn struck_byte(e: Effect, input: &[u8], k: usize, old: u8) -> u8
+fn struck_byte(e: Effect, input: &[u8], k: usize, old: u8) -> u8
     requires { ⌜ k < 4294967296 ⌝ }
     ensures { λ r. ⌜ r ≡ struck e (now (input .entry)) k old ⌝ }
 {

@@ -4,4 +4,5 @@ pub mod Accepted
 pub mod Call
 pub mod Array
 pub mod Sound
+pub mod Chip
 pub mod Determined

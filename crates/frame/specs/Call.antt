@@ -1,13 +1,13 @@
 -- The calls "run a frame" and "run an interrupted frame": their refusals in the order checked, and what they answer and leave.
 use mathlib.Core.Path.{_≡_}
-use mathlib.Core.Bool.{Bool, _||_, not, cond}
+use mathlib.Core.Bool.{Bool, _||_, not}
 use mathlib.Core.List.{List, [], _∷_, _++_}
 use Prim.Native.Nat.{ℕ}
 use lib.Dec.{ltb, eqb}
 use lib.ListN.{length}
 use Rattle.common.specs.Limits.{longestFrame}
 use Rattle.common.specs.Lists.{mapi, tab}
-use Rattle.common.specs.Refusals.{firstOf, accepted}
+use Rattle.common.specs.Refusals.{stateNotSound, wrongArray, wrongFrame, wrongOutput, wrongMask, firstOf, accepted}
 use Rattle.state.specs.declared.State.{State}
 use Rattle.state.specs.declared.Answer.{Answer}
 use Rattle.state.specs.State.{dataOf}
@@ -25,10 +25,10 @@ use Rattle.effect.specs.Cut.{cut}
 -- by the lengths of the array, the frame and the output
 abbrev pub frameRefusals : State → ℕ → ℕ → ℕ → List (ℕ × Bool)
 frameRefusals s size n out =
-    (1, not (isSound s))
-    ∷ (2, not (eqb size (dataOf s .size)))
-    ∷ (3, eqb n 0 || ltb longestFrame n)
-    ∷ (4, not (eqb out n))
+    (stateNotSound, not (isSound s))
+    ∷ (wrongArray, not (eqb size (dataOf s .size)))
+    ∷ (wrongFrame, eqb n 0 || ltb longestFrame n)
+    ∷ (wrongOutput, not (eqb out n))
     ∷ []
 
 unfoldable pub frameNumber : State → ℕ → ℕ → ℕ → ℕ
@@ -65,10 +65,16 @@ pub record FrameRun (s : State) (wp : Bool) (array f output : List ℕ) (answer 
 
 -- ---- run an interrupted frame
 
--- the frame's own, then the mask's length
+-- by the mask's length
+abbrev pub maskRefusals : State → Bool → List ℕ → ℕ → List (ℕ × Bool)
+maskRefusals s wp f mask = (wrongMask, not (eqb mask (maskLength (effectAt s wp f)))) ∷ []
+
+-- the frame's own, then the mask's
+abbrev pub cutRefusals : State → Bool → ℕ → List ℕ → ℕ → ℕ → List (ℕ × Bool)
+cutRefusals s wp size f out mask = frameRefusals s size (length f) out ++ maskRefusals s wp f mask
+
 unfoldable pub cutNumber : State → Bool → ℕ → List ℕ → ℕ → ℕ → ℕ
-cutNumber s wp size f out mask =
-    firstOf (frameRefusals s size (length f) out ++ ((5, not (eqb mask (maskLength (effectAt s wp f)))) ∷ []))
+cutNumber s wp size f out mask = firstOf (cutRefusals s wp size f out mask)
 
 -- "Then power-up."
 unfoldable pub cutAnswer : State → Bool → List ℕ → List ℕ → List ℕ → List ℕ → Answer

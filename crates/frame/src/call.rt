@@ -1,10 +1,10 @@
 // The calls: run a frame, run an interrupted frame.
 use crate::effect_of;
 use common::limits::LONGEST_FRAME;
+use common::refusals;
 use state::Answer;
 use state::State;
 ghost use mathlib.Core.Path.{_≡_};
-ghost use lib.ListN.{length};
 ghost use Rattle.frame.specs.Call.{frameNumber, FrameRun, CutRun};
 
 // By the lengths of the array, the frame and the output.
@@ -12,16 +12,16 @@ fn frame_number(s: State, size: usize, count: usize, output: usize) -> u32
     ensures { λ r. ⌜ r ≡ frameNumber s size count output ⌝ }
 {
     if !state::soundness::is_sound(s) {
-        return 1;
+        return refusals::STATE_NOT_SOUND;
     }
     if size != chip::chip_of(s.chip).size as usize {
-        return 2;
+        return refusals::WRONG_ARRAY;
     }
     if (count == 0) | (LONGEST_FRAME < count) {
-        return 3;
+        return refusals::WRONG_FRAME;
     }
     if output != count {
-        return 4;
+        return refusals::WRONG_OUTPUT;
     }
     0
 }
@@ -59,7 +59,7 @@ pub fn run_cut_frame(
     let c = command::understand::command_of(s, wp, input);
     let e = effect_of(c);
     if mask.len() != effect::mask_length(e) {
-        return state::refuse(5, s);
+        return state::refuse(refusals::WRONG_MASK, s);
     }
     output::emit(s, c, array, output);
     effect::change::cut_change(array, e, input, mask);

@@ -7,7 +7,7 @@ ghost use mathlib.Core.Path.{_≡_};
 ghost use Rattle.frame.specs.Effect.{effectOf};
 
 // What a command does to the array.
-pub fn effect_of(c: Command) -> Effect
+fn effect_of(c: Command) -> Effect
     ensures { λ r. ⌜ r ≡ effectOf c ⌝ }
 {
     match c {

@@ -1,5 +1,5 @@
 // The library for programs in C, C++ or Rust: include/zeradok.h declares these calls. Each is one call of the model, under a name of its own.
-pub mod reader;
+mod reader;
 
 use plan::Planned;
 use reader::Record;

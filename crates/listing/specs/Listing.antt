@@ -1,16 +1,21 @@
 -- What program `play` prints of a script (01): run "on a new, erased 05PA, WP high".
 use mathlib.Core.Bool.{Bool, true, cond}
 use mathlib.Core.List.{List, [], _∷_, _++_}
-use Prim.Native.Nat.{ℕ}
+use Prim.Native.Nat.{ℕ, _+_, _*_}
 use lib.Dec.{ltb}
 use lib.ListN.{length, replicate, take, drop}
 use Rattle.state.specs.Power.{newChip}
 use Rattle.state.specs.Status.{statusOf}
 use Rattle.script.specs.Record.{Record, frame, wait}
 use Rattle.common.specs.Limits.{longestScript}
+use Rattle.common.specs.Refusals.{scriptTooLong}
 use Rattle.script.specs.Decode.{faultNumber, Decoded, records, badAt, decode}
 use Rattle.run.specs.Run.{Device, device, step, outputOf, run}
-use Rattle.listing.specs.Text.{hex, decimal, line}
+use Rattle.text.specs.Text.{hex, decimal, line}
+
+-- how long a listing can be: a frame of n bytes takes 4 + n bytes of the script and 2 n + 3 characters; the last line has 5
+abbrev pub longestListing : ℕ
+longestListing = 2 * longestScript + 5
 
 abbrev pub high : Bool
 high = true
@@ -47,7 +52,7 @@ decodedLines (badAt fault offset) = refusalLine (faultNumber fault)
 
 -- 11 is checked before 12
 unfoldable pub listing : List ℕ → List ℕ
-listing script = cond (ltb longestScript (length script)) (refusalLine 11) (decodedLines (decode script))
+listing script = cond (ltb longestScript (length script)) (refusalLine scriptTooLong) (decodedLines (decode script))
 
 -- the frames' lines made of all their outputs, laid "one after another"
 unfoldable pub cutLines : List Record → List ℕ → List ℕ

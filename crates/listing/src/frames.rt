@@ -1,13 +1,13 @@
 // One line a frame.
-use crate::text::put_hex_line;
 use script::reader::Found;
 use script::reader::record_at;
+use text::put_hex_line;
 ghost use mathlib.Core.Path.{_≡_};
 ghost use Prim.Native.Nat.{_*_, _≤_};
 ghost use lib.ListN.{length};
 ghost use Rattle.common.specs.Limits.{longestScript};
 ghost use Rattle.script.specs.Survey.{surveyOf};
-ghost use Rattle.run.specs.Script.{recordsOf};
+ghost use Rattle.script.specs.Decode.{recordsOf};
 ghost use Rattle.common.specs.Buffer.{Put};
 ghost use Rattle.listing.specs.Listing.{cutLines};
 

@@ -1,12 +1,11 @@
 // What program `play` prints of a script (01): the outputs of its frames and the status, or why it is refused.
 mod frames;
-mod text;
 
 use common::limits::LONGEST_SCRIPT;
 ghost use mathlib.Core.Path.{_≡_};
-ghost use Prim.Native.Nat.{_≤_};
 ghost use lib.ListN.{length};
 ghost use Rattle.common.specs.Buffer.{Put};
+ghost use Rattle.common.specs.Limits.{longestScript};
 ghost use Rattle.listing.specs.Listing.{erased, listing};
 
 // A frame of n bytes takes 4 + n bytes of the script and 2 n + 3 characters; the last line has 5.
@@ -21,7 +20,7 @@ fn erased_array() -> [u8; 65536]
 
 // Room for the outputs of a script, which are no longer than the script.
 fn output_room() -> [u8; LONGEST_SCRIPT]
-    ensures { λ r. ⌜ 32768 ≡ length r ⌝ }
+    ensures { λ r. ⌜ longestScript ≡ length r ⌝ }
 {
     [0; LONGEST_SCRIPT]
 }
@@ -41,7 +40,7 @@ pub fn listing(script: &[u8], text: &mut [u8; LONGEST_LISTING]) -> usize
         &mut output[..survey.output],
     );
     if ran.number != 0 {
-        return text::put_refusal(ran.number, text, 0);
+        return text::put_decimal_line(b'R', ran.number, text, 0);
     }
     let last_line = frames::put_frame_lines(script, &output[..survey.output], text);
     text::put_hex_line(

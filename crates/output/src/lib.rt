@@ -7,7 +7,7 @@ ghost use lib.ListN.{length};
 ghost use Rattle.common.specs.Lists.{tab};
 ghost use Rattle.common.specs.Limits.{longestFrame};
 ghost use Rattle.state.specs.State.{dataOf};
-ghost use Rattle.output.specs.Output.{memory, since, readAt, jedec, identity, shownAt};
+ghost use Rattle.output.specs.Output.{memory, readAt, jedec, identity, shownAt};
 ghost use Rattle.command.specs.Fits.{Fits};
 
 fn array_byte(s: State, array: &[u8], from: u32, at: u8, i: usize) -> u8

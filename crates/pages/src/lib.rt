@@ -97,14 +97,12 @@ fn put_part(start: usize, wanted: &[u8], part: Part, buffer: &mut [u8], at: usiz
     if from == to {
         return at;
     }
-    let high = (from / 65536 % 256) as u8;
-    let middle = (from / 256 % 256) as u8;
-    let low = (from % 256) as u8;
+    let place = common::address_bytes(from);
     let first = from - start;
     let behind = to - start;
     let enabled = script::writer::put_frame(&[0x06], buffer, at);
     let headed = script::writer::put_head(4 + (to - from), buffer, enabled);
-    let addressed = common::buffer::put(&[0x02, high, middle, low], buffer, headed);
+    let addressed = common::buffer::put(&[0x02, place[0], place[1], place[2]], buffer, headed);
     let sent = common::buffer::put(&wanted[first..behind], buffer, addressed);
     script::writer::put_wait(1500, buffer, sent)
 }

@@ -1,3 +1,4 @@
+pub mod Steps
 pub mod Plan
 pub mod Refusals
 pub mod Update

@@ -34,7 +34,7 @@ statusRecords s bp = frame (cond (dataOf s .ewsr) 0x50 0x06 ∷ []) ∷ frame (0
 abbrev pub statusStep : Bool → State → ℕ → List Record
 statusStep needed s bp = cond needed (statusRecords s bp) []
 
--- step 2 on a chip with AAI, else step 3
+-- step 2 on a chip whose plans go by words, else step 3
 unfoldable pub programStep : Bool → List ℕ → ℕ → List ℕ → List Record
 programStep words array start wanted = cond words (stepTwo array start wanted) (stepThree array start wanted)
 
@@ -46,5 +46,5 @@ planRecords s array start wanted =
     ++ statusStep (stepOneNeeded s array start wanted) s (s .bp))  -- step 4: "after step 1, the same two frames with the old BP"
 
 -- what a plan amounts to, from what its step 2 or 3 does: steps 1 and 4 are two frames each, of one and two bytes
-unfoldable pub withStatus : Bool → Measure → Measure
-withStatus needed m = cond needed (record { length = m .length + 22; frames = m .frames + 4; microseconds = m .microseconds }) m
+unfoldable pub withStatusSteps : Bool → Measure → Measure
+withStatusSteps needed m = cond needed (record { length = m .length + 22; frames = m .frames + 4; microseconds = m .microseconds }) m

@@ -6,7 +6,7 @@ use Prim.Native.Nat.{ℕ, _+_, _≤_}
 use lib.Dec.{ltb, eqb}
 use lib.ListN.{length}
 use Rattle.common.specs.Limits.{longestWanted}
-use Rattle.common.specs.Refusals.{firstOf}
+use Rattle.common.specs.Refusals.{stateNotSound, wrongArray, wrongRegion, notAtRest, wantedRises, statusLocked, bufferTooShort, firstOf}
 use Rattle.script.specs.Record.{encode}
 use Rattle.state.specs.declared.State.{State}
 use Rattle.state.specs.State.{dataOf}
@@ -17,18 +17,18 @@ use Rattle.plan.specs.Plan.{stepOneNeeded, planRecords}
 -- those that ask neither for the WP level nor for the buffer
 abbrev pub regionRefusals : State → List ℕ → ℕ → List ℕ → List (ℕ × Bool)
 regionRefusals s array start wanted =
-    (1, not (isSound s))  -- "state not sound, or chip number unknown"
-    ∷ (2, not (eqb (length array) (dataOf s .size)))  -- "array length isn't the chip's size"
-    ∷ (6, ltb longestWanted (length wanted) || ltb (dataOf s .size) (start + length wanted))  -- "over 4,096 wanted bytes, or start plus length above the size"
-    ∷ (7, isBusy s || s .aai || s .«power_down»)  -- "not at rest: busy, AAI or power-down"
-    ∷ (8, anyOf (rises array start wanted) (length wanted) start)  -- "a wanted 1 where the array has 0"
+    (stateNotSound, not (isSound s))  -- "state not sound, or chip number unknown"
+    ∷ (wrongArray, not (eqb (length array) (dataOf s .size)))  -- "array length isn't the chip's size"
+    ∷ (wrongRegion, ltb longestWanted (length wanted) || ltb (dataOf s .size) (start + length wanted))  -- "over 4,096 wanted bytes, or start plus length above the size"
+    ∷ (notAtRest, isBusy s || s .aai || s .«power_down»)  -- "not at rest: busy, AAI or power-down"
+    ∷ (wantedRises, anyOf (rises array start wanted) (length wanted) start)  -- "a wanted 1 where the array has 0"
     ∷ []
 
 -- those that do
 abbrev pub scriptRefusals : State → Bool → List ℕ → ℕ → List ℕ → ℕ → List (ℕ × Bool)
 scriptRefusals s wp array start wanted room =
-    (9, stepOneNeeded s array start wanted && s .bpl && not wp)  -- "step 1 needed, BPL 1, WP low"
-    ∷ (10, ltb room (length (encode (planRecords s array start wanted))))  -- "script longer than the buffer"
+    (statusLocked, stepOneNeeded s array start wanted && s .bpl && not wp)  -- "step 1 needed, BPL 1, WP low"
+    ∷ (bufferTooShort, ltb room (length (encode (planRecords s array start wanted))))  -- "script longer than the buffer"
     ∷ []
 
 abbrev pub planRefusals : State → Bool → List ℕ → ℕ → List ℕ → ℕ → List (ℕ × Bool)

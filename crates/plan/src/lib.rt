@@ -1,7 +1,8 @@
 // The planner: from the bytes wanted in a region of the array to the script that programs them.
-pub mod status; // steps 1 and 4
+mod status; // steps 1 and 4
 
 use common::limits::LONGEST_WANTED;
+use common::refusals;
 use script::measure::Measure;
 use state::State;
 ghost use mathlib.Core.Path.{_≡_};
@@ -57,19 +58,19 @@ fn region_refusal(s: State, array: &[u8], start: usize, wanted: &[u8]) -> u32
 {
     let size = chip::chip_of(s.chip).size as usize;
     if !state::soundness::is_sound(s) {
-        return 1;
+        return refusals::STATE_NOT_SOUND;
     }
     if array.len() != size {
-        return 2;
+        return refusals::WRONG_ARRAY;
     }
     if region_exceeds(size, start, wanted.len()) {
-        return 6;
+        return refusals::WRONG_REGION;
     }
     if (0 < s.left) | s.aai | s.power_down {
-        return 7;
+        return refusals::NOT_AT_REST;
     }
     if region::wants_rise(array, start, wanted) {
-        return 8;
+        return refusals::WANTED_RISES;
     }
     0
 }
@@ -93,7 +94,7 @@ fn measure_plan(s: State, needed: bool, array: &[u8], start: usize, wanted: &[u8
     ensures { λ r. ⌜ r ≡ measureOf (planRecords s (now (array .entry)) start (now (wanted .entry))) ⌝ }
 {
     let words = chip::chip_of(s.chip).word_plans;
-    status::with_status(needed, measure_program(words, array, start, wanted))
+    status::with_status_steps(needed, measure_program(words, array, start, wanted))
 }
 
 // Step 2 or 3, by the chip.
@@ -154,11 +155,11 @@ pub fn plan_update(
     }
     let needed = status::step_one_needed(s, array, start, wanted);
     if needed & s.bpl & !wp {
-        return refused_plan(9, s);
+        return refused_plan(refusals::STATUS_LOCKED, s);
     }
     let m = measure_plan(s, needed, array, start, wanted);
     if buffer.len() < m.length as usize {
-        return refused_plan(10, s);
+        return refused_plan(refusals::BUFFER_TOO_SHORT, s);
     }
     put_plan(s, needed, array, start, wanted, buffer);
     Planned {

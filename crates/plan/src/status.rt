@@ -9,7 +9,8 @@ ghost use Rattle.script.specs.Record.{encode};
 ghost use Rattle.state.specs.State.{dataOf};
 ghost use Rattle.region.specs.Region.{Inside};
 ghost use Rattle.common.specs.Buffer.{Put};
-ghost use Rattle.plan.specs.Plan.{stepOneNeeded, statusByte, statusStep, withStatus};
+ghost use Rattle.common.specs.Limits.{longestScript};
+ghost use Rattle.plan.specs.Plan.{stepOneNeeded, statusByte, statusStep, withStatusSteps};
 
 // Whether a byte that changes is protected.
 pub fn step_one_needed(s: State, array: &[u8], start: usize, wanted: &[u8]) -> bool
@@ -58,9 +59,9 @@ pub fn put_status(needed: bool, s: State, bp: u8, buffer: &mut [u8], at: usize) 
 }
 
 // With steps 1 and 4 around it: two frames each, of one and two bytes.
-pub fn with_status(needed: bool, m: Measure) -> Measure
-    requires { ⌜ (m .length ≤ 32768) × (m .frames ≤ 32768) ⌝ }
-    ensures { λ r. ⌜ r ≡ withStatus needed m ⌝ }
+pub fn with_status_steps(needed: bool, m: Measure) -> Measure
+    requires { ⌜ (m .length ≤ longestScript) × (m .frames ≤ longestScript) ⌝ }
+    ensures { λ r. ⌜ r ≡ withStatusSteps needed m ⌝ }
 {
     if needed {
         Measure {

@@ -4,17 +4,20 @@ use libc::STDIN_FILENO;
 use libc::STDOUT_FILENO;
 use listing::LONGEST_LISTING;
 ghost use mathlib.Core.Path.{_≡_};
+ghost use Prim.Native.Nat.{_+_};
 ghost use lib.ListN.{length};
+ghost use Rattle.common.specs.Limits.{longestScript};
+ghost use Rattle.listing.specs.Listing.{longestListing};
 
 // One byte more than the longest script has, so that a longer one is seen.
 fn script_room() -> [u8; LONGEST_SCRIPT + 1]
-    ensures { λ r. ⌜ 32769 ≡ length r ⌝ }
+    ensures { λ r. ⌜ longestScript + 1 ≡ length r ⌝ }
 {
     [0; LONGEST_SCRIPT + 1]
 }
 
 fn text_room() -> [u8; LONGEST_LISTING]
-    ensures { λ r. ⌜ 65541 ≡ length r ⌝ }
+    ensures { λ r. ⌜ longestListing ≡ length r ⌝ }
 {
     [0; LONGEST_LISTING]
 }

@@ -1,21 +1,20 @@
-pub mod States
-pub mod Between
-pub mod Near
-pub mod Safe
-pub mod Trace
-pub mod Run
-pub mod Frames
-pub mod Status
-pub mod Words
-pub mod Pages
-pub mod Region
-pub mod Length
-pub mod PlanRun
-pub mod Completes
-pub mod Recovery
+mod States
+mod Between
+mod Near
+mod Safe
+mod Run
+mod Frames
+mod Status
+mod Words
+mod Pages
+mod Region
+mod Length
+mod PlanRun
+mod Completes
+mod Recovery
 pub mod PowerCut
 pub mod Calls
 pub mod Promises
-pub mod Samples
-pub mod Witness
-pub mod Counterexamples
+mod Samples
+mod Witness
+mod Counterexamples

@@ -9,13 +9,13 @@ use Rattle.common.specs.Lists.{mapi, within}
 use Rattle.state.specs.declared.State.{State}
 use Rattle.state.specs.State.{withWel, withArmed}
 use Rattle.state.specs.Power.{powerUp}
-use Rattle.script.specs.Record.{Record, frame, AllBytes, encode}
+use Rattle.script.specs.Record.{Record, frame, encode}
 use Rattle.effect.specs.Effect.{maskLength}
 use Rattle.frame.specs.Call.{effectAt, frameNumber, cutAnswer, cutArray}
-use Rattle.common.specs.Bits.{bitAt}
+use Rattle.common.specs.Bits.{Bytes, bitAt}
 use Rattle.run.specs.declared.Ran.{Ran}
 use Rattle.run.specs.Run.{Device, device, run}
-use Rattle.run.specs.Script.{recordsOf}
+use Rattle.script.specs.Decode.{recordsOf}
 use Rattle.plan.specs.declared.Planned.{Planned}
 use Rattle.plan.specs.Plan.{planRecords}
 use Rattle.plan.specs.Refusals.{planRefusal}
@@ -52,7 +52,7 @@ stateAfterPlan (r ∷ rs) s = withArmed (withWel s false) false
 pub record Completes (records : List Record) (wp : Bool) (chip : Device) (array : List ℕ) : Type 0 where
   pub array-is : run wp records chip .array ≡ array
   pub state-is : run wp records chip .state ≡ stateAfterPlan records (chip .state)
-  pub frames-taken : (before after : List Record) (f : List ℕ) → records ≡ before ++ (frame f ∷ after)
+  pub frames-accepted : (before after : List Record) (f : List ℕ) → records ≡ before ++ (frame f ∷ after)
       → frameNumber (run wp before chip .state) (length (run wp before chip .array)) (length f) (length f) ≡ 0
   pub powers-up : (before after : List Record) → records ≡ before ++ after → powerUp (run wp before chip .state) .number ≡ 0
 
@@ -71,7 +71,7 @@ interrupted wp f mask chip =
 -- Between: also before the first record and behind the last. Inside: any frame, with any mask of "one byte for each array byte the frame programs"
 pub data CutShort (records : List Record) (wp : Bool) (chip : Device) : Device → Type 0 where
   between : (before after : List Record) → records ≡ before ++ after → CutShort records wp chip (powered (run wp before chip))
-  inside : (before after : List Record) (f mask : List ℕ) → records ≡ before ++ (frame f ∷ after) → AllBytes mask
+  inside : (before after : List Record) (f mask : List ℕ) → records ≡ before ++ (frame f ∷ after) → Bytes mask
       → length mask ≡ maskLength (effectAt (run wp before chip .state) wp f)
       → CutShort records wp chip (interrupted wp f mask (run wp before chip))
 

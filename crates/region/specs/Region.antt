@@ -1,9 +1,9 @@
 -- The region of an update: what is wanted at each address, and which bytes change (01, "Scripts and plans").
 use mathlib.Core.Bool.{Bool, false, cond, not, _&&_, _||_}
-use mathlib.Core.List.{List, [], _∷_}
-use Prim.Native.Nat.{ℕ, zero, suc, _+_, _-_, _/_, _%_, _≤_}
+use mathlib.Core.List.{List}
+use Prim.Native.Nat.{ℕ, zero, suc, _+_, _-_, _≤_}
 use lib.Bits.{bitAnd}
-use lib.Dec.{leb, ltb, eqb}
+use lib.Dec.{eqb}
 use lib.ListN.{length, getD}
 use Rattle.common.specs.Limits.{longestWanted}
 use Rattle.common.specs.Lists.{within}

@@ -28,8 +28,8 @@ abbrev pub has : ℕ → ℕ → Bool
 has byte value = eqb (byte / value % 2) 1
 
 -- "It sets BP and BPL, and TB on the 05PA, from its byte"
-abbrev pub withStatus : State → ℕ → State
-withStatus s byte = withBits s (byte / 4 % 8) (dataOf s .«top_bottom» && has byte 32) (has byte 128)
+abbrev pub withStatusByte : State → ℕ → State
+withStatusByte s byte = withBits s (byte / 4 % 8) (dataOf s .«top_bottom» && has byte 32) (has byte 128)
 
 abbrev pub disarm : State → State
 disarm s = withArmed s false
@@ -45,7 +45,7 @@ stateAfter s (ReadIdentity b) = disarm s
 stateAfter s WriteEnable = withArmed (withWel s true) true
 stateAfter s WriteDisable = withAai (withWel (disarm s) false) false 0
 stateAfter s Arm = withArmed s true
-stateAfter s (WriteStatus b) = withWel (withStatus (disarm s) b) false
+stateAfter s (WriteStatus b) = withWel (withStatusByte (disarm s) b) false
 stateAfter s (Erase a n t) = withLeft (disarm s) t
 stateAfter s (ProgramByte a) = withLeft (disarm s) 7
 stateAfter s (ProgramPage a n) = withLeft (disarm s) 1500

@@ -5,7 +5,7 @@ ghost use mathlib.Core.Path.{_≡_};
 ghost use Prim.Native.Nat.{_<_};
 ghost use mathlib.Core.Bool.{true, false};
 ghost use Rattle.state.specs.State.{withLeft, withWel, withArmed, withPowerDown, withAai};
-ghost use Rattle.registers.specs.Registers.{has, withStatus, stateAfter};
+ghost use Rattle.registers.specs.Registers.{has, withStatusByte, stateAfter};
 ghost use Rattle.command.specs.Fits.{Fits};
 
 fn has_bit(byte: u8, value: u8) -> bool
@@ -16,8 +16,8 @@ fn has_bit(byte: u8, value: u8) -> bool
 }
 
 // The bits that a status write sets, from its byte.
-fn with_status(s: State, byte: u8) -> State
-    ensures { λ r. ⌜ r ≡ withStatus s byte ⌝ }
+fn with_status_byte(s: State, byte: u8) -> State
+    ensures { λ r. ⌜ r ≡ withStatusByte s byte ⌝ }
 {
     let mut t = s;
     t.bp = byte / 4 % 8;
@@ -82,9 +82,9 @@ fn with_power_down(s: State, power_down: bool) -> State
 
 // A status write takes no time.
 fn status_written(s: State, byte: u8) -> State
-    ensures { λ r. ⌜ r ≡ withWel (withStatus s byte) false ⌝ }
+    ensures { λ r. ⌜ r ≡ withWel (withStatusByte s byte) false ⌝ }
 {
-    let mut t = with_status(s, byte);
+    let mut t = with_status_byte(s, byte);
     t.wel = false;
     t
 }

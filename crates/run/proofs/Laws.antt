@@ -1,5 +1,5 @@
-pub mod Chip
 pub mod Run
+pub mod Trace
 pub mod Accepted
 pub mod Script
 pub mod Walk

@@ -1,47 +1,31 @@
 -- The call "run a script" (01, "Scripts and plans"): its refusals in the order checked, and what it answers and leaves.
 use mathlib.Core.Path.{_≡_}
-use mathlib.Core.Bool.{Bool, true, false, not}
+use mathlib.Core.Bool.{Bool, cond, not}
 use mathlib.Core.List.{List, [], _∷_}
 use Prim.Native.Nat.{ℕ}
 use lib.Dec.{ltb, eqb}
 use lib.ListN.{length}
-use Rattle.common.specs.Refusals.{firstOf, accepted}
+use Rattle.common.specs.Refusals.{stateNotSound, wrongArray, wrongOutput, scriptTooLong, unknownMark, wrongLength, cutShort, firstOf, accepted}
 use Rattle.state.specs.declared.State.{State}
 use Rattle.state.specs.State.{dataOf}
 use Rattle.state.specs.Soundness.{isSound}
 use Rattle.script.specs.declared.survey.Survey.{Survey}
 use Rattle.script.specs.Record.{Record, framesIn, microsecondsIn, outputLength}
 use Rattle.common.specs.Limits.{longestScript}
-use Rattle.script.specs.Decode.{faultNumber, Decoded, records, badAt, decode}
+use Rattle.script.specs.Decode.{isUnknownMark, isWrongLength, isCutShort, isBad, decode, recordsOf}
 use Rattle.run.specs.declared.Ran.{Ran}
 use Rattle.run.specs.Run.{device, run, outputs}
-
--- the records of a script that was read; none where one of them is bad
-abbrev pub recordsIn : Decoded → List Record
-recordsIn (records rs) = rs
-recordsIn (badAt fault offset) = []
-
-abbrev pub recordsOf : List ℕ → List Record
-recordsOf script = recordsIn (decode script)
-
--- "some record malformed or cut short" (01, refusal 12)
-abbrev pub isBad : Decoded → Bool
-isBad (records rs) = false
-isBad (badAt fault offset) = true
-
--- the number of its fault
-abbrev pub badNumber : Decoded → ℕ
-badNumber (records rs) = 0
-badNumber (badAt fault offset) = faultNumber fault
 
 -- by the array's length, the script itself and the output's length: "a script is checked 1, 2, 11, 12, 4"
 abbrev pub scriptRefusals : State → ℕ → List ℕ → ℕ → List (ℕ × Bool)
 scriptRefusals s size script out =
-    (1, not (isSound s))
-    ∷ (2, not (eqb size (dataOf s .size)))
-    ∷ (11, ltb longestScript (length script))
-    ∷ (badNumber (decode script), isBad (decode script))  -- 12
-    ∷ (4, not (eqb out (outputLength (recordsOf script))))
+    (stateNotSound, not (isSound s))
+    ∷ (wrongArray, not (eqb size (dataOf s .size)))
+    ∷ (scriptTooLong, ltb longestScript (length script))
+    ∷ (unknownMark, isBad isUnknownMark (decode script))
+    ∷ (wrongLength, isBad isWrongLength (decode script))
+    ∷ (cutShort, isBad isCutShort (decode script))
+    ∷ (wrongOutput, not (eqb out (outputLength (recordsOf script))))
     ∷ []
 
 unfoldable pub scriptNumber : State → ℕ → List ℕ → ℕ → ℕ
@@ -50,12 +34,9 @@ scriptNumber s size script out = firstOf (scriptRefusals s size script out)
 -- the same by the script's survey, whose number is 11 or 12, or 0
 unfoldable pub surveyedNumber : State → ℕ → Survey → ℕ → ℕ
 surveyedNumber s size survey out =
-    firstOf
-    ((1, not (isSound s))
-    ∷ (2, not (eqb size (dataOf s .size)))
-    ∷ (survey .number, not (eqb (survey .number) 0))
-    ∷ (4, not (eqb out (survey .output)))
-    ∷ [])
+    cond (not (isSound s)) stateNotSound
+    (cond (not (eqb size (dataOf s .size))) wrongArray
+    (cond (not (eqb (survey .number) 0)) (survey .number) (cond (not (eqb out (survey .output))) wrongOutput 0)))
 
 -- "It reports frames run and microseconds waited."
 abbrev pub ranRecords : State → List Record → Ran

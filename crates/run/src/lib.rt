@@ -1,6 +1,7 @@
 // Scripts run on a chip (01, "Scripts and plans").
 mod records;
 
+use common::refusals;
 use script::survey::Survey;
 use state::State;
 ghost use mathlib.Core.Path.{_≡_};
@@ -20,16 +21,16 @@ fn script_number(s: State, size: usize, survey: Survey, output: usize) -> u32
     ensures { λ r. ⌜ r ≡ surveyedNumber s size survey output ⌝ }
 {
     if !state::soundness::is_sound(s) {
-        return 1;
+        return refusals::STATE_NOT_SOUND;
     }
     if size != chip::chip_of(s.chip).size as usize {
-        return 2;
+        return refusals::WRONG_ARRAY;
     }
     if survey.number != 0 {
         return survey.number;
     }
     if output != survey.output {
-        return 4;
+        return refusals::WRONG_OUTPUT;
     }
     0
 }

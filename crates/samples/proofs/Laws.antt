@@ -1,3 +1,2 @@
-pub mod Memory
-pub mod Plan
+mod Plan
 pub mod Sessions

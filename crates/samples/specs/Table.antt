@@ -1,5 +1,5 @@
 -- The sample sessions that document 01 marks P, in its order.
-use mathlib.Core.Bool.{Bool, true, false}
+use mathlib.Core.Bool.{true, false}
 use mathlib.Core.List.{List, [], _∷_, _++_}
 use Prim.Native.Nat.{ℕ}
 use Rattle.state.specs.declared.State.{State}

@@ -1,8 +1,9 @@
 pub mod Records
-pub mod Front
+mod Front
 pub mod Places
 pub mod Decode
 pub mod Reader
 pub mod Answers
 pub mod Survey
 pub mod Writer
+pub mod Measure

@@ -1,12 +1,13 @@
 -- Bytes read as records (01, "Scripts and plans"; refusal 12).
-use mathlib.Core.Bool.{cond, _&&_, _||_}
+use mathlib.Core.Bool.{Bool, true, false, cond, _&&_, _||_}
 use mathlib.Core.List.{List, [], _∷_}
 use Prim.Native.Nat.{ℕ, zero, suc, _+_}
 use lib.Dec.{eqb, ltb}
 use lib.ListN.{length, take, drop}
-use Rattle.script.specs.Record.{Record, frame, wait, recordLength}
+use Rattle.script.specs.Record.{Record, frame, wait, scriptMark, frameMark, waitMark, recordLength}
 use Rattle.common.specs.Numbers.{twoBytes, fourBytes}
 use Rattle.common.specs.Limits.{longestFrame}
+use Rattle.common.specs.Refusals
 
 -- why a record is "malformed or cut short"
 pub data Fault : Type 0 where
@@ -14,11 +15,26 @@ pub data Fault : Type 0 where
   wrongLength : Fault
   cutShort : Fault
 
--- the refusal's number (01 has one for all faults)
+abbrev pub isUnknownMark : Fault → Bool
+isUnknownMark unknownMark = true
+isUnknownMark wrongLength = false
+isUnknownMark cutShort = false
+
+abbrev pub isWrongLength : Fault → Bool
+isWrongLength unknownMark = false
+isWrongLength wrongLength = true
+isWrongLength cutShort = false
+
+abbrev pub isCutShort : Fault → Bool
+isCutShort unknownMark = false
+isCutShort wrongLength = false
+isCutShort cutShort = true
+
+-- the refusal's number
 abbrev pub faultNumber : Fault → ℕ
-faultNumber unknownMark = 12
-faultNumber wrongLength = 12
-faultNumber cutShort = 12
+faultNumber unknownMark = Refusals.unknownMark
+faultNumber wrongLength = Refusals.wrongLength
+faultNumber cutShort = Refusals.cutShort
 
 -- what stands at the front of some bytes: nothing, a record with the bytes behind it, or no good record
 pub data Front : Type 0 where
@@ -51,12 +67,22 @@ unfoldable pub front : List ℕ → Front
 front [] = end
 front (first ∷ []) = malformed cutShort
 front (first ∷ second ∷ rest) =
-    cond (eqb first 0x5a && eqb second 0x46) (frontFrame rest) (cond (eqb first 0x5a && eqb second 0x57) (frontWait rest) (malformed unknownMark))
+    cond (eqb first scriptMark && eqb second frameMark) (frontFrame rest) (cond (eqb first scriptMark && eqb second waitMark) (frontWait rest) (malformed unknownMark))
 
 -- what some bytes are: records to the end, or a first bad record, with its fault and its mark's offset
 pub data Decoded : Type 0 where
   records : List Record → Decoded
   badAt : Fault → ℕ → Decoded
+
+-- the records of a script that was read; none where one of them is bad
+abbrev pub recordsIn : Decoded → List Record
+recordsIn (records rs) = rs
+recordsIn (badAt fault offset) = []
+
+-- "some record malformed or cut short" (01, refusal 12), by such a fault
+abbrev pub isBad : (Fault → Bool) → Decoded → Bool
+isBad is (records rs) = false
+isBad is (badAt fault offset) = is fault
 
 -- a record, and behind it what the other bytes are
 abbrev pub followed : Record → Decoded → Decoded
@@ -77,3 +103,6 @@ decodeWithin (suc n) bytes = decodeOn (front bytes) (decodeWithin n)
 -- record after record. A record has five bytes at least, so as many turns as there are bytes are enough
 unfoldable pub decode : List ℕ → Decoded
 decode bytes = decodeWithin (length bytes) bytes
+
+abbrev pub recordsOf : List ℕ → List Record
+recordsOf script = recordsIn (decode script)

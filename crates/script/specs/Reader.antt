@@ -4,9 +4,10 @@ use mathlib.Core.List.{List, []}
 use Prim.Native.Nat.{ℕ, _+_, _*_}
 use lib.Dec.{ltb}
 use lib.ListN.{length, getD, take, drop}
-use Rattle.script.specs.Record.{Record, frame, wait, recordLength}
+use Rattle.script.specs.Record.{frame, wait, recordLength}
 use Rattle.common.specs.Numbers.{twoBytes}
 use Rattle.common.specs.Limits.{longestScript}
+use Rattle.common.specs.Refusals.{scriptTooLong}
 use Rattle.script.specs.Decode.{cutShort, faultNumber, Front, end, item, malformed, front}
 use Rattle.script.specs.declared.reader.Found.{Found}
 use Rattle.script.specs.declared.reader.Found.the-variants.{Frame, Wait, End, Refused}
@@ -50,7 +51,7 @@ answer offset (malformed fault) = Refused (faultNumber fault) offset
 -- "the frame or the wait of the record there with the next offset, or "end" where the offset is the script's length"
 unfoldable pub recordAt : List ℕ → ℕ → Found
 recordAt script offset =
-    cond (ltb longestScript (length script)) (Refused 11 offset)
+    cond (ltb longestScript (length script)) (Refused scriptTooLong offset)
     (cond (ltb (length script) offset) (Refused (faultNumber cutShort) offset) (answer offset (front (drop offset script))))
 
 -- the number of what stands at the front
@@ -62,7 +63,7 @@ frontNumber (malformed fault) = faultNumber fault
 -- the reader's number, in the order checked: 11 for a script over 32,768; 12 for "the record at the offset, or an offset past the end"
 unfoldable pub readerNumber : List ℕ → ℕ → ℕ
 readerNumber script offset =
-    cond (ltb longestScript (length script)) 11
+    cond (ltb longestScript (length script)) scriptTooLong
     (cond (ltb (length script) offset) (faultNumber cutShort) (frontNumber (front (drop offset script))))
 
 -- "the reader gives a frame back as that part of the caller's script"

@@ -1,34 +1,42 @@
 -- A script's records, their bytes and what is counted of them (01, "Scripts and plans").
 use mathlib.Core.List.{List, [], _∷_, _++_}
-use Prim.Native.Nat.{ℕ, _+_, _*_, _/_, _%_, _≤_, _<_}
+use Prim.Native.Nat.{ℕ, _+_, _/_, _%_, _≤_, _<_}
 use lib.ListN.{length}
 use Rattle.common.specs.Limits.{longestFrame}
+use Rattle.common.specs.Lists.{Each}
 
 -- "A script is records": a frame with its bytes, or a wait with its microseconds
 pub data Record : Type 0 where
   frame : List ℕ → Record
   wait : ℕ → Record
 
--- numbers that are bytes
-abbrev pub AllBytes : List ℕ → Type 0
-AllBytes [] = Unit {0}
-AllBytes (byte ∷ bytes) = (byte < 256) × AllBytes bytes
-
 -- what a record can hold: a frame of 1 to 4,101 bytes, a number of four bytes
 abbrev pub Fits : Record → Type 0
 Fits (frame bytes) = (1 ≤ length bytes) × (length bytes ≤ longestFrame)
 Fits (wait microseconds) = microseconds < 4294967296
 
--- each of them
 abbrev pub AllFit : List Record → Type 0
-AllFit [] = Unit {0}
-AllFit (r ∷ rs) = Fits r × AllFit rs
+AllFit = Each Fits
 
--- "5A 46, a length of two bytes, high first, .. then the frame; or 5A 57 and four bytes of microseconds, high first"
+-- "each with a two-byte mark: 5A 46 .. or 5A 57": the first byte of both, a frame's second, a wait's second
+abbrev pub scriptMark : ℕ
+scriptMark = 0x5a
+
+abbrev pub frameMark : ℕ
+frameMark = 0x46
+
+abbrev pub waitMark : ℕ
+waitMark = 0x57
+
+-- what stands before a frame's bytes: its mark and "a length of two bytes, high first"
+abbrev pub frameHead : ℕ → List ℕ
+frameHead n = scriptMark ∷ frameMark ∷ n / 256 ∷ n % 256 ∷ []
+
+-- "then the frame; or 5A 57 and four bytes of microseconds, high first"
 unfoldable pub encodeRecord : Record → List ℕ
-encodeRecord (frame bytes) = 0x5a ∷ 0x46 ∷ length bytes / 256 ∷ length bytes % 256 ∷ bytes
+encodeRecord (frame bytes) = frameHead (length bytes) ++ bytes
 encodeRecord (wait microseconds) =
-    0x5a ∷ 0x57 ∷ microseconds / 16777216 ∷ microseconds / 65536 % 256 ∷ microseconds / 256 % 256 ∷ microseconds % 256 ∷ []
+    scriptMark ∷ waitMark ∷ microseconds / 16777216 ∷ microseconds / 65536 % 256 ∷ microseconds / 256 % 256 ∷ microseconds % 256 ∷ []
 
 -- the script of these records
 unfoldable pub encode : List Record → List ℕ

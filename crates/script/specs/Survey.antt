@@ -6,6 +6,7 @@ use lib.Dec.{ltb}
 use lib.ListN.{length}
 use Rattle.script.specs.Record.{framesIn, microsecondsIn, outputLength}
 use Rattle.common.specs.Limits.{longestScript}
+use Rattle.common.specs.Refusals.{scriptTooLong}
 use Rattle.script.specs.Decode.{faultNumber, Decoded, records, badAt, decode}
 use Rattle.script.specs.declared.survey.Survey.{Survey}
 
@@ -24,4 +25,4 @@ surveyed (badAt fault offset) = refusedSurvey (faultNumber fault) offset
 
 -- 11 is checked before 12
 unfoldable pub surveyOf : List ℕ → Survey
-surveyOf script = cond (ltb longestScript (length script)) (refusedSurvey 11 0) (surveyed (decode script))
+surveyOf script = cond (ltb longestScript (length script)) (refusedSurvey scriptTooLong 0) (surveyed (decode script))

@@ -1,4 +1,7 @@
 // The reader: what the record at an offset of a script is.
+use super::marks::FRAME_MARK;
+use super::marks::SCRIPT_MARK;
+use super::marks::WAIT_MARK;
 use common::limits::LONGEST_FRAME;
 use common::limits::LONGEST_SCRIPT;
 use common::refusals;
@@ -111,10 +114,10 @@ fn front_at(script: &[u8], offset: usize) -> Found
     }
     let first = script[offset];
     let second = script[offset + 1];
-    if (first == 0x5a) & (second == 0x46) {
+    if (first == SCRIPT_MARK) & (second == FRAME_MARK) {
         return frame_at(script, offset);
     }
-    if (first == 0x5a) & (second == 0x57) {
+    if (first == SCRIPT_MARK) & (second == WAIT_MARK) {
         return wait_at(script, offset);
     }
     Found::Refused {

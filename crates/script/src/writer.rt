@@ -1,11 +1,13 @@
 // Records laid into a lent buffer, one behind the other.
+use super::marks::FRAME_MARK;
+use super::marks::SCRIPT_MARK;
+use super::marks::WAIT_MARK;
 use common::buffer::put;
 ghost use Prim.Native.Nat.{_+_, _≤_};
 ghost use lib.ListN.{length};
-ghost use Rattle.script.specs.Record.{encodeRecord, frame, wait};
+ghost use Rattle.script.specs.Record.{encodeRecord, frame, wait, frameHead};
 ghost use Rattle.common.specs.Limits.{longestFrame};
 ghost use Rattle.common.specs.Buffer.{Put};
-ghost use Rattle.script.specs.Head.{frameHead};
 
 // 5A 46 and a frame's length.
 pub fn put_head(n: usize, buffer: &mut [u8], at: usize) -> usize
@@ -13,7 +15,11 @@ pub fn put_head(n: usize, buffer: &mut [u8], at: usize) -> usize
     requires { ⌜ at + 4 ≤ length (now buffer) ⌝ }
     ensures { λ r. ⌜ Put at (frameHead n) (now (buffer .entry)) (now (buffer .exit)) r ⌝ }
 {
-    put(&[0x5a, 0x46, (n / 256) as u8, (n % 256) as u8], buffer, at)
+    put(
+        &[SCRIPT_MARK, FRAME_MARK, (n / 256) as u8, (n % 256) as u8],
+        buffer,
+        at,
+    )
 }
 
 // A frame's record.
@@ -35,5 +41,9 @@ pub fn put_wait(microseconds: u32, buffer: &mut [u8], at: usize) -> usize
     let second = (microseconds / 65536 % 256) as u8;
     let third = (microseconds / 256 % 256) as u8;
     let fourth = (microseconds % 256) as u8;
-    put(&[0x5a, 0x57, first, second, third, fourth], buffer, at)
+    put(
+        &[SCRIPT_MARK, WAIT_MARK, first, second, third, fourth],
+        buffer,
+        at,
+    )
 }

@@ -1,5 +1,4 @@
 -- A call's answer (01, "Refusal numbers"): "an accepted call's number is 0", "a refusal returns the given state".
-use mathlib.Core.Bool.{cond}
 use Prim.Native.Nat.{ℕ}
 use Rattle.common.specs.Refusals.{accepted}
 use Rattle.state.specs.declared.State.{State}

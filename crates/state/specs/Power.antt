@@ -2,7 +2,7 @@
 use mathlib.Core.Bool.{Bool, false, cond, not}
 use mathlib.Core.List.{[], _∷_}
 use Prim.Native.Nat.{ℕ}
-use Rattle.common.specs.Refusals.{firstOf}
+use Rattle.common.specs.Refusals.{stateNotSound, firstOf}
 use Rattle.state.specs.declared.State.{State}
 use Rattle.state.specs.declared.Answer.{Answer}
 use Rattle.chip.specs.Chip.{chipOf, isKnown}
@@ -31,7 +31,7 @@ newState number = atRest number (chipOf number .«new_level») false false
 
 -- "making a chip of an unknown number gets no state and returns a new 05PA with refusal 1"
 unfoldable pub newChip : ℕ → Answer
-newChip number = cond (isKnown number) (granted (newState number)) (refused 1 (newState 5))
+newChip number = cond (isKnown number) (granted (newState number)) (refused stateNotSound (newState 5))
 
 -- "Power-up gives the 008A its new state; the 05PA keeps BP, TB and BPL, the rest 0."
 unfoldable pub poweredUp : State → State
@@ -39,7 +39,7 @@ poweredUp s = cond (dataOf s .keeps) (atRest (s .chip) (s .bp) (s .tb) (s .bpl))
 
 -- the refusals of a call that takes a state and nothing else
 unfoldable pub stateRefusal : State → ℕ
-stateRefusal s = firstOf ((1, not (isSound s)) ∷ [])
+stateRefusal s = firstOf ((stateNotSound, not (isSound s)) ∷ [])
 
 unfoldable pub powerUp : State → Answer
 powerUp s = answered (stateRefusal s) s (poweredUp s)

@@ -1,5 +1,5 @@
 -- Block protection (000, Table 2; 004, Table 3): the addresses from the first protected one up.
-use mathlib.Core.Bool.{Bool, cond}
+use mathlib.Core.Bool.{cond}
 use mathlib.Core.List.{List, [], _∷_}
 use Prim.Native.Nat.{ℕ, _%_}
 use lib.Dec.{eqb}

@@ -2,7 +2,7 @@
 use mathlib.Core.Path.{_≡_}
 use mathlib.Core.Bool.{Bool, true, false, _&&_, _||_, not}
 use mathlib.Core.List.{List, [], _∷_}
-use Prim.Native.Nat.{ℕ, _%_, _≤_, _<_}
+use Prim.Native.Nat.{_%_, _≤_, _<_}
 use lib.Dec.{leb, ltb, eqb}
 use Rattle.state.specs.declared.State.{State}
 use Rattle.chip.specs.Chip.{isKnown}
@@ -64,21 +64,21 @@ pub record Busy (s : State) : Type 0 where
 pub record Running (s : State) : Type 0 where
   pub enabled : s .wel ≡ true
   pub disarmed : s .armed ≡ false
-  pub short : s .left ≤ 7
-  pub even : s .next % 2 ≡ 0
-  pub two : 2 ≤ s .next
-  pub upto : s .next ≤ firstProtected s
-  pub goes : s .left ≡ 0 → s .next < firstProtected s
+  pub left-le-7 : s .left ≤ 7
+  pub next-even : s .next % 2 ≡ 0
+  pub next-ge-2 : 2 ≤ s .next
+  pub next-le-first : s .next ≤ firstProtected s
+  pub next-lt-first : s .left ≡ 0 → s .next < firstProtected s
 
 pub record Sound (s : State) : Type 0 where
-  pub known : isKnown (s .chip) ≡ true
-  pub level : s .bp ≤ 7
-  pub timed : s .left ≤ dataOf s .«chip_time»
-  pub busy : 0 < s .left → Busy s
-  pub apart : s .armed ≡ true → s .«power_down» ≡ false
-  pub latched : dataOf s .ewsr ≡ false → s .armed ≡ true → s .wel ≡ true
-  pub topped : s .tb ≡ true → dataOf s .«top_bottom» ≡ true
-  pub sleeper : s .«power_down» ≡ true → dataOf s .sleeps ≡ true
-  pub worded : s .aai ≡ true → dataOf s .aai ≡ true
-  pub rests : s .aai ≡ false → s .next ≡ 0
-  pub runs : s .aai ≡ true → Running s
+  pub chip-known : isKnown (s .chip) ≡ true
+  pub bp-le-7 : s .bp ≤ 7
+  pub left-le-chip-time : s .left ≤ dataOf s .«chip_time»
+  pub while-busy : 0 < s .left → Busy s
+  pub armed-awake : s .armed ≡ true → s .«power_down» ≡ false
+  pub armed-enabled : dataOf s .ewsr ≡ false → s .armed ≡ true → s .wel ≡ true
+  pub tb-had : s .tb ≡ true → dataOf s .«top_bottom» ≡ true
+  pub power-down-had : s .«power_down» ≡ true → dataOf s .sleeps ≡ true
+  pub aai-had : s .aai ≡ true → dataOf s .aai ≡ true
+  pub next-0-without-aai : s .aai ≡ false → s .next ≡ 0
+  pub in-aai : s .aai ≡ true → Running s

@@ -1,5 +1,5 @@
 -- Time (01, "State").
-use mathlib.Core.Bool.{Bool, false, cond}
+use mathlib.Core.Bool.{false, cond}
 use Prim.Native.Nat.{ℕ, _-_}
 use lib.Dec.{ltb, eqb}
 use Rattle.state.specs.declared.State.{State}

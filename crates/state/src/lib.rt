@@ -11,7 +11,7 @@ ghost use Rattle.state.specs.Answer.{granted, refused};
 // BUSY is "left above 0" and no field.
 #[repr(C)]
 pub struct State {
-    // the chip's number: 8 or 5
+    // the chip's number
     pub chip: u8,
     // BP2 BP1 BP0 as a number
     pub bp: u8,

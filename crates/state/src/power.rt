@@ -1,8 +1,8 @@
 // A new chip, and a chip powered up again.
 use crate::Answer;
 use crate::State;
+use common::refusals;
 ghost use mathlib.Core.Path.{_≡_};
-ghost use Prim.Native.Nat.{ℕ};
 ghost use Rattle.state.specs.Power.{atRest, newState, newChip, poweredUp, powerUp};
 
 // Nothing going on: only the chip and its protection bits.
@@ -36,7 +36,7 @@ pub fn new_chip(number: u8) -> Answer
     if chip::is_known(number) {
         crate::grant(new_state(number))
     } else {
-        crate::refuse(1, new_state(5))
+        crate::refuse(refusals::STATE_NOT_SOUND, new_state(5))
     }
 }
 
@@ -58,6 +58,6 @@ pub fn power_up(s: State) -> Answer
     if crate::soundness::is_sound(s) {
         crate::grant(powered_up(s))
     } else {
-        crate::refuse(1, s)
+        crate::refuse(refusals::STATE_NOT_SOUND, s)
     }
 }

@@ -1,6 +1,7 @@
 // Time: a write cycle goes on, and ends.
 use crate::Answer;
 use crate::State;
+use common::refusals;
 ghost use mathlib.Core.Path.{_≡_};
 ghost use Rattle.state.specs.Time.{cycleEnded, timePassed, passTime};
 
@@ -21,7 +22,7 @@ fn cycle_ended(s: State) -> State
     t
 }
 
-pub fn time_passed(s: State, n: u32) -> State
+fn time_passed(s: State, n: u32) -> State
     ensures { λ r. ⌜ r ≡ timePassed s n ⌝ }
 {
     if n < s.left {
@@ -42,6 +43,6 @@ pub fn pass_time(s: State, n: u32) -> Answer
     if crate::soundness::is_sound(s) {
         crate::grant(time_passed(s, n))
     } else {
-        crate::refuse(1, s)
+        crate::refuse(refusals::STATE_NOT_SOUND, s)
     }
 }

@@ -1,3 +1,4 @@
 pub mod Runs
 pub mod Words
 pub mod Walk
+pub mod Fewer

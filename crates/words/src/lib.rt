@@ -51,13 +51,15 @@ fn put_first(start: usize, wanted: &[u8], address: usize, buffer: &mut [u8], at:
     requires { ⌜ at + length (encode (wordRecords (wantedAt start (now wanted)) false true address)) ≤ length (now buffer) ⌝ }
     ensures { λ r. ⌜ Put at (encode (wordRecords (wantedAt start (now (wanted .entry))) false true address)) (now (buffer .entry)) (now (buffer .exit)) r ⌝ }
 {
-    let high = (address / 65536 % 256) as u8;
-    let middle = (address / 256 % 256) as u8;
-    let low = (address % 256) as u8;
+    let place = common::address_bytes(address);
     let even = region::wanted_at(start, wanted, address);
     let odd = region::wanted_at(start, wanted, address + 1);
     let enabled = script::writer::put_frame(&[0x06], buffer, at);
-    let sent = script::writer::put_frame(&[0xad, high, middle, low, even, odd], buffer, enabled);
+    let sent = script::writer::put_frame(
+        &[0xad, place[0], place[1], place[2], even, odd],
+        buffer,
+        enabled,
+    );
     script::writer::put_wait(7, buffer, sent)
 }
 

@@ -1,57 +1,129 @@
--- What every chip's data has in common: all that laws ask of a chip. A further chip is one more value of `Regular`.
+-- What every chip has in common: all that a proof may ask of a chip, of its data and of its instructions' kinds.
+-- A further chip is one more line of `models-regular`.
 -- Assumes nothing.
-use mathlib.Core.Path.{_≡_, refl}
-use mathlib.Core.Bool.{Bool, true, false, false≢true, true≢false}
+use mathlib.Core.Path.{_≡_, refl, sym, _∙_}
+use mathlib.Core.Bool.{Bool, true, false, _&&_, not, false≢true, true≢false}
+use mathlib.Core.List.{List, [], _∷_}
 use Prim.Native.Nat.{ℕ, _%_, _≤_, _<_}
 use native.Mathlib.Omega.{arith}
 use lib.Dec.{eqb}
+use borrow.Author.Tests.{eq-eqb, not-true}
+use Rattle.common.specs.Lists.{Each}
+use Rattle.common.proofs.Laws.Booleans.{and-l, and-r}
 use Rattle.common.proofs.Laws.Choice.{cond-elim}
+use Rattle.common.proofs.Laws.Pairs.{_▹_}
 use Rattle.chip.specs.declared.Chip.{Chip}
-use Rattle.chip.specs.Chip.{f25l008a, f25l05pa, isKnown, chipOf}
+use Rattle.chip.specs.Kinds.{unknown, pageProgram, aaiProgram, ewsr, wrsr, wren, wrdi, deepPowerDown}
+use Rattle.chip.specs.Instructions.{instructions008A, instructions05PA, kindIn}
+use Rattle.chip.specs.Chip.{f25l05pa, Model, model008A, model05PA, models, modelIn, isKnown, chipOf, kindOf}
 
-pub record Regular (k : Chip) : Type 0 where
-  pub some : 0 < k .size
-  pub small : k .size ≤ 1048576
-  -- whole blocks
-  pub blocks : k .size % 65536 ≡ 0
-  -- nothing takes longer than a chip erase
-  pub block-le : k .«block_time» ≤ k .«chip_time»
-  pub sector-le : 90000 ≤ k .«chip_time»
-  pub level-le : k .«new_level» ≤ 7
-  -- AAI and power-down: no chip has both
-  pub apart : k .aai ≡ true → k .sleeps ≡ true → ⊥
-  -- levels of protection: the table's size
-  pub leveled : k .graded ≡ true → k .size ≡ 1048576
+pub record Regular (chip : Chip) (kind : ℕ → ℕ) : Type 0 where
+  -- ---- the array
+  pub size-positive : 0 < chip .size
+  pub size-le-mebibyte : chip .size ≤ 1048576
+  pub whole-blocks : chip .size % 65536 ≡ 0
+  -- the levels' table is that of one size
+  pub graded-size : chip .graded ≡ true → chip .size ≡ 1048576
+  pub new-level-le-7 : chip .«new_level» ≤ 7
+  -- ---- nothing takes longer than a chip erase
+  pub block-le-chip-time : chip .«block_time» ≤ chip .«chip_time»
+  pub sector-le-chip-time : 90000 ≤ chip .«chip_time»
+  -- ---- AAI and power-down: no chip has both
+  pub aai-without-power-down : chip .aai ≡ true → chip .sleeps ≡ true → ⊥
+  -- ---- only a chip that says so has these kinds
+  pub aai-program-needs-aai : (op : ℕ) → kind op ≡ aaiProgram → chip .aai ≡ true
+  pub ewsr-needs-ewsr : (op : ℕ) → kind op ≡ ewsr → chip .ewsr ≡ true
+  pub power-down-needs-sleeps : (op : ℕ) → kind op ≡ deepPowerDown → chip .sleeps ≡ true
+  -- ---- the opcodes that plans send
+  pub wren-is-06 : kind 0x06 ≡ wren
+  pub wrdi-is-04 : kind 0x04 ≡ wrdi
+  pub wrsr-is-01 : kind 0x01 ≡ wrsr
+  pub ewsr-is-50 : chip .ewsr ≡ true → kind 0x50 ≡ ewsr
+  pub aai-program-is-ad : chip .«word_plans» ≡ true → kind 0xad ≡ aaiProgram
+  pub page-program-is-02 : chip .«word_plans» ≡ false → kind 0x02 ≡ pageProgram
 
-regular-008a : Regular f25l008a
+-- ---- a kind that no instruction has
+
+abbrev lacks : List (ℕ × ℕ) → ℕ → Bool
+lacks [] kind = not (eqb unknown kind)
+lacks (i ∷ is) kind = not (eqb (i .1) kind) && lacks is kind
+
+differs : (found kind : ℕ) → not (eqb found kind) ≡ true → found ≡ kind → ⊥
+differs found kind e h = true≢false (sym (eq-eqb found kind h) ∙ not-true (eqb found kind) e)
+
+lacked : (is : List (ℕ × ℕ)) (kind : ℕ) → lacks is kind ≡ true → (op : ℕ) → kindIn is op ≡ kind → ⊥
+lacked [] kind e op = differs unknown kind e
+lacked (i ∷ is) kind e op =
+    cond-elim (λ (found : ℕ). found ≡ kind → ⊥) (eqb op (i .0)) (λ _. differs (i .1) kind (and-l (not (eqb (i .1) kind)) (lacks is kind) e))
+    (λ _. lacked is kind (and-r (not (eqb (i .1) kind)) (lacks is kind) e) op)
+
+-- ---- each model
+
+abbrev RegularModel : Model → Type 0
+RegularModel m = Regular (m .chip) (kindIn (m .instructions))
+
+regular-008a : RegularModel model008A
 regular-008a = record {
-  some = omega arith;
-  small = omega arith;
-  blocks = refl;
-  block-le = omega arith;
-  sector-le = omega arith;
-  level-le = omega arith;
-  apart = λ w z. false≢true z;
-  leveled = λ _. refl;
+  size-positive = omega arith;
+  size-le-mebibyte = omega arith;
+  whole-blocks = refl;
+  graded-size = λ _. refl;
+  new-level-le-7 = omega arith;
+  block-le-chip-time = omega arith;
+  sector-le-chip-time = omega arith;
+  aai-without-power-down = λ _ e. false≢true e;
+  aai-program-needs-aai = λ _ _. refl;
+  ewsr-needs-ewsr = λ _ _. refl;
+  power-down-needs-sleeps = λ op e. absurd (lacked instructions008A deepPowerDown refl op e);
+  wren-is-06 = refl;
+  wrdi-is-04 = refl;
+  wrsr-is-01 = refl;
+  ewsr-is-50 = λ _. refl;
+  aai-program-is-ad = λ _. refl;
+  page-program-is-02 = λ e. absurd (true≢false e);
 }
 
-regular-05pa : Regular f25l05pa
+regular-05pa : RegularModel model05PA
 regular-05pa = record {
-  some = omega arith;
-  small = omega arith;
-  blocks = refl;
-  block-le = omega arith;
-  sector-le = omega arith;
-  level-le = omega arith;
-  apart = λ w z. false≢true w;
-  leveled = λ e. absurd (false≢true e);
+  size-positive = omega arith;
+  size-le-mebibyte = omega arith;
+  whole-blocks = refl;
+  graded-size = λ e. absurd (false≢true e);
+  new-level-le-7 = omega arith;
+  block-le-chip-time = omega arith;
+  sector-le-chip-time = omega arith;
+  aai-without-power-down = λ e _. false≢true e;
+  aai-program-needs-aai = λ op e. absurd (lacked instructions05PA aaiProgram refl op e);
+  ewsr-needs-ewsr = λ op e. absurd (lacked instructions05PA ewsr refl op e);
+  power-down-needs-sleeps = λ _ _. refl;
+  wren-is-06 = refl;
+  wrdi-is-04 = refl;
+  wrsr-is-01 = refl;
+  ewsr-is-50 = λ e. absurd (false≢true e);
+  aai-program-is-ad = λ e. absurd (false≢true e);
+  page-program-is-02 = λ _. refl;
 }
 
-pub regular : (n : ℕ) → Regular (chipOf n)
-unfolding chipOf
-regular n = cond-elim Regular (eqb n 8) (λ _. regular-008a) (λ _. regular-05pa)
+models-regular : Each RegularModel models
+models-regular = regular-008a ▹ regular-05pa ▹ tt
+
+-- ---- the chip of any number
+
+-- what holds of each model and of the one that stands in holds of the one found
+model-in : (P : Model → Type 0) (ms : List Model) (other : Model) → Each P ms → P other → (number : ℕ) → P (modelIn ms other number)
+model-in P [] other each stands number = stands
+model-in P (m ∷ ms) other each stands number =
+    cond-elim P (eqb number (m .number)) (λ _. each .0) (λ _. model-in P ms other (each .1) stands number)
+
+pub regular : (number : ℕ) → Regular (chipOf number) (kindOf number)
+unfolding chipOf kindOf
+regular number = model-in RegularModel models model05PA models-regular regular-05pa number
 
 -- the chip that stands in for an unknown one
 pub known-5 : isKnown 5 ≡ true
 unfolding isKnown
 known-5 = refl
+
+pub chip-of-5 : chipOf 5 ≡ f25l05pa
+unfolding chipOf
+chip-of-5 = refl

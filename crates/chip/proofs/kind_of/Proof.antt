@@ -1,8 +1,10 @@
 -- `chip::kind_of` meets its contract: the chip's own table.
 -- Assumes nothing.
+use mathlib.Core.Path.{ap, _∙_}
 use borrow.Author.Needs.{needs}
-use borrow.Author.Tests.{eq-eqb, ne-eqb}
-use Rattle.chip.specs.Instructions.{kindOf}
+use Rattle.chip.specs.Instructions.{kindIn}
+use Rattle.chip.specs.Chip.{Model, kindOf}
+use Rattle.chip.proofs.Laws.Models.{model-of-8, model-of-other}
 use Rattle.chip.proofs.kind_of.Statement.{statement}
 use Rattle.chip.proofs.kind_of.Tie as tie
 
@@ -14,11 +16,11 @@ kind-05pa-requires c κs = search needs
 
 returns : tie.Need-returns
 unfolding kindOf
-returns c = rw (eq-eqb _ 8 (c .before .if1 .taken)) (c .kind-008a .ensures)
+returns c = c .kind-008a .ensures ∙ ap (λ (m : Model). kindIn (m .instructions) (c .before .before .args .op)) (model-of-8 _ (c .before .if1 .taken))
 
 returns-2 : tie.Need-returns-2
 unfolding kindOf
-returns-2 c = rw (ne-eqb _ 8 (c .before .if1 .left)) (c .kind-05pa .ensures)
+returns-2 c = c .kind-05pa .ensures ∙ ap (λ (m : Model). kindIn (m .instructions) (c .before .before .args .op)) (model-of-other _ (c .before .if1 .left))
 
 pub kind-of-spec : {M : Type 1} → statement M
 kind-of-spec = tie.close (tie.spec kind-008a-requires kind-05pa-requires returns returns-2)

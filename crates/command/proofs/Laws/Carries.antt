@@ -1,25 +1,21 @@
 -- The frame has the data bytes that its command speaks of.
 -- Assumes nothing.
-use mathlib.Core.Path.{_≡_, refl}
+use mathlib.Core.Path.{_≡_}
 use mathlib.Core.Bool.{Bool, true, _||_, not}
 use mathlib.Core.List.{List, [], _∷_}
-use Prim.Native.Nat.{ℕ, _+_, _-_, _*_, _/_, _≤_}
+use Prim.Native.Nat.{ℕ, _+_, _-_, _*_, _/_}
 use native.Mathlib.Omega.{arith}
-use lib.Dec.{leb, ltb, eqb}
+use lib.Dec.{leb, ltb}
 use lib.ListN.{getD, length}
 use borrow.Author.Tests.{leb-true, eqb-true}
 use Rattle.common.proofs.Laws.Choice.{cond-elim}
 use Rattle.common.proofs.Laws.Pairs.{_▹_}
 use Rattle.state.specs.declared.State.{State}
-use Rattle.chip.specs.Instructions.{kindOf}
+use Rattle.chip.specs.Chip.{kindOf}
 use Rattle.command.specs.declared.Command.{Command}
 use Rattle.command.specs.declared.Command.the-variants.{
-  Ignored,
   ReadStatus,
-  ReadArray,
-  ReadJedec,
   ReadSignature,
-  ReadIdentity,
   WriteEnable,
   WriteDisable,
   Arm,
@@ -30,7 +26,7 @@ use Rattle.command.specs.declared.Command.the-variants.{
   ProgramWord,
   Sleep,
 }
-use Rattle.command.specs.Command.{when, long, address, writable, look, erase, rows, aaiRows, byKind, inAai, commandOf}
+use Rattle.command.specs.Command.{when, long, address, writable, erase, rows, aaiRows, byKind, inAai, commandOf}
 use Rattle.command.specs.Fits.{Carries}
 use Rattle.command.proofs.Laws.Rows.{AllRows, look-elim}
 

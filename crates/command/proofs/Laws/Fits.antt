@@ -1,35 +1,28 @@
 -- What `commandOf` gives fits the state that the frame was read at.
 -- Assumes nothing.
-use mathlib.Core.Path.{_≡_, refl, sym, ap, _∙_}
-use mathlib.Core.Bool.{Bool, true, false, _&&_, _||_, not, cond, false≢true, true≢false}
+use mathlib.Core.Path.{_≡_}
+use mathlib.Core.Bool.{Bool, true, false, _||_, not}
 use mathlib.Core.List.{List, [], _∷_}
-use Prim.Native.Nat.{ℕ, _+_, _-_, _*_, _/_, _%_, _≤_, _<_}
+use Prim.Native.Nat.{ℕ, _+_, _-_, _*_, _/_, _≤_, _<_}
 use native.Mathlib.Omega.{arith}
 use native.Mathlib.Nat.{mod-lt}
-use lib.Dec.{leb, ltb, eqb}
+use lib.Dec.{leb, ltb}
 use lib.ListN.{getD, length}
-use borrow.Author.Tests.{leb-true, ltb-false, eq-eqb}
+use borrow.Author.Tests.{leb-true, ltb-false}
 use Rattle.common.proofs.Laws.Choice.{cond-elim, cases}
-use Rattle.common.proofs.Laws.Booleans.{and-l, and-r, implies-elim}
+use Rattle.common.proofs.Laws.Booleans.{and-l, and-r}
 use Rattle.common.proofs.Laws.Pairs.{_▹_}
 use Rattle.state.specs.declared.State.{State}
-use Rattle.chip.specs.declared.Chip.{Chip}
-use Rattle.chip.specs.Chip.{f25l008a, f25l05pa, chipOf}
+use Rattle.chip.specs.Chip.{kindOf}
 use Rattle.state.specs.State.{dataOf}
 use Rattle.state.specs.Protection.{firstProtected}
-use Rattle.state.specs.Soundness.{Sound, implies}
+use Rattle.state.specs.Soundness.{Sound}
 use Rattle.chip.proofs.Laws.Chip.{regular}
 use Rattle.state.proofs.Laws.Protection.{first-le}
-use Rattle.chip.specs.Kinds.{unknown, aaiProgram, ewsr, deepPowerDown}
-use Rattle.chip.specs.Instructions.{instructions008A, instructions05PA, instructionsOf, kindIn, kindOf}
 use Rattle.command.specs.declared.Command.{Command}
 use Rattle.command.specs.declared.Command.the-variants.{
-  Ignored,
   ReadStatus,
-  ReadArray,
-  ReadJedec,
   ReadSignature,
-  ReadIdentity,
   WriteEnable,
   WriteDisable,
   Arm,
@@ -40,55 +33,15 @@ use Rattle.command.specs.declared.Command.the-variants.{
   ProgramWord,
   Sleep,
 }
-use Rattle.command.specs.Command.{when, long, address, writable, look, erase, eraseChip, programByte, programPage, writeStatus, rows, aaiRows, byKind, inAai, commandOf}
-use Rattle.command.specs.Fits.{Resting, Open, Words, Fits}
+use Rattle.command.specs.Command.{when, long, address, writable, erase, rows, aaiRows, byKind, inAai, commandOf}
+use Rattle.command.specs.Fits.{Resting, Open, Fits}
 use Rattle.command.proofs.Laws.Rows.{AllRows, look-elim}
-
--- ---- a chip has the kinds that its data speaks of
-
-abbrev hasKind : Chip → ℕ → Bool
-hasKind k kind =
-    implies (eqb kind aaiProgram) (k .aai) && implies (eqb kind ewsr) (k .ewsr) && implies (eqb kind deepPowerDown) (k .sleeps)
-
--- of each instruction's kind, and of the unknown
-abbrev haveKinds : Chip → List (ℕ × ℕ) → Bool
-haveKinds k [] = hasKind k unknown
-haveKinds k (i ∷ is) = hasKind k (i .1) && haveKinds k is
-
-kind-in : (k : Chip) (is : List (ℕ × ℕ)) → haveKinds k is ≡ true → (op : ℕ) → hasKind k (kindIn is op) ≡ true
-kind-in k [] e op = e
-kind-in k (i ∷ is) e op =
-    cond-elim (λ (kind : ℕ). hasKind k kind ≡ true) (eqb op (i .0)) (λ _. and-l (hasKind k (i .1)) (haveKinds k is) e)
-    (λ _. kind-in k is (and-r (hasKind k (i .1)) (haveKinds k is) e) op)
-
-kind-has : (chip op : ℕ) → hasKind (chipOf chip) (kindOf chip op) ≡ true
-unfolding chipOf kindOf
-kind-has chip op = cases (eqb chip 8) (λ e. rw e (kind-in f25l008a instructions008A refl op)) (λ e. rw e (kind-in f25l05pa instructions05PA refl op))
-
-module _ (chip op : ℕ) where
-  kinds : hasKind (chipOf chip) (kindOf chip op) ≡ true
-  kinds = kind-has chip op
-
-  two : (implies (eqb (kindOf chip op) aaiProgram) (chipOf chip .aai) && implies (eqb (kindOf chip op) ewsr) (chipOf chip .ewsr)) ≡ true
-  two = and-l (implies (eqb (kindOf chip op) aaiProgram) (chipOf chip .aai) && implies (eqb (kindOf chip op) ewsr) (chipOf chip .ewsr)) _ kinds
-
-  aai-words : kindOf chip op ≡ aaiProgram → chipOf chip .aai ≡ true
-  aai-words e = implies-elim (eqb (kindOf chip op) aaiProgram) (chipOf chip .aai) (and-l (implies (eqb (kindOf chip op) aaiProgram) (chipOf chip .aai)) _ two) (eq-eqb _ aaiProgram e)
-
-  ewsr-arms : kindOf chip op ≡ ewsr → chipOf chip .ewsr ≡ true
-  ewsr-arms e = implies-elim (eqb (kindOf chip op) ewsr) (chipOf chip .ewsr) (and-r (implies (eqb (kindOf chip op) aaiProgram) (chipOf chip .aai)) _ two) (eq-eqb _ ewsr e)
-
-  power-down-sleeps : kindOf chip op ≡ deepPowerDown → chipOf chip .sleeps ≡ true
-  power-down-sleeps e =
-      implies-elim (eqb (kindOf chip op) deepPowerDown) (chipOf chip .sleeps)
-      (and-r (implies (eqb (kindOf chip op) aaiProgram) (chipOf chip .aai) && implies (eqb (kindOf chip op) ewsr) (chipOf chip .ewsr)) _ kinds)
-      (eq-eqb _ deepPowerDown e)
 
 -- ---- the rows fit
 
 pub address-lt : (s : State) (f : List ℕ) → address s f < dataOf s .size
 unfolding address
-address-lt s f = mod-lt _ (regular (s .chip) .some)
+address-lt s f = mod-lt _ (regular (s .chip) .size-positive)
 
 pub open-of : (s : State) (end : ℕ) → writable s end ≡ true → Open s end
 unfolding writable
@@ -111,19 +64,19 @@ module _ (s : State) (wp : Bool) (f : List ℕ) where
       let k = regular (s .chip) in
       (λ _. address-lt s f)
       ▹ (λ _. address-lt s f)
-      ▹ (λ _. given _ (long f 4) (λ _. erase-fits (a / 4096 * 4096) 4096 90000 r (k .sector-le)))
-      ▹ (λ _. given _ (long f 4) (λ _. erase-fits (a / 65536 * 65536) 65536 (dataOf s .«block_time») r (k .block-le)))
+      ▹ (λ _. given _ (long f 4) (λ _. erase-fits (a / 4096 * 4096) 4096 90000 r (k .sector-le-chip-time)))
+      ▹ (λ _. given _ (long f 4) (λ _. erase-fits (a / 65536 * 65536) 65536 (dataOf s .«block_time») r (k .block-le-chip-time)))
       ▹ (λ _. given _ (long f 1) (λ _. erase-fits 0 (dataOf s .size) (dataOf s .«chip_time») r (omega arith)))
       ▹ (λ _. given _ (long f 5) (λ _. given (ProgramByte a) (writable s (a + 1)) (λ w. (r, open-of s (a + 1) w))))
       ▹ (λ _. given _ (leb 5 (length f)) (λ _. given (ProgramPage a (length f - 4)) (writable s (a + 1)) (λ w. (r, open-of s (a + 1) w))))
       ▹ (λ e. given _ (long f 6) (λ _. given (ProgramWord (a / 2 * 2) 4) (writable s (a / 2 * 2 + 2))
-      (λ w. (record { worded = aai-words (s .chip) op e; still = r .still; awake = r .awake; even = omega arith }, open-of s (a / 2 * 2 + 2) w))))
+      (λ w. (record { aai-had = k .aai-program-needs-aai op e; still = r .still; awake = r .awake; even = omega arith }, open-of s (a / 2 * 2 + 2) w))))
       ▹ (λ _. tt)
-      ▹ (λ e. given Arm (long f 1) (λ _. (r, ewsr-arms (s .chip) op e)))
+      ▹ (λ e. given Arm (long f 1) (λ _. (r, k .ewsr-needs-ewsr op e)))
       ▹ (λ _. given _ (long f 2) (λ _. given _ (s .armed) (λ _. given (WriteStatus (getD f 1 0)) (not (s .bpl) || wp) (λ _. r))))
       ▹ (λ _. given WriteEnable (long f 1) (λ _. r))
       ▹ (λ _. given WriteDisable (long f 1) (λ _. r .still))
-      ▹ (λ e. given Sleep (long f 1) (λ _. (r, power-down-sleeps (s .chip) op e)))
+      ▹ (λ e. given Sleep (long f 1) (λ _. (r, k .power-down-needs-sleeps op e)))
       ▹ (λ _. tt)
       ▹ (λ _. tt)
       ▹ (λ _. tt)
@@ -131,12 +84,12 @@ module _ (s : State) (wp : Bool) (f : List ℕ) where
 
   -- no chip with AAI has power-down
   awake-in-aai : Sound s → s .aai ≡ true → s .«power_down» ≡ false
-  awake-in-aai h a = cases (s .«power_down») (λ d. absurd (regular (s .chip) .apart (h .worded a) (h .sleeper d))) (λ d. d)
+  awake-in-aai h a = cases (s .«power_down») (λ d. absurd (regular (s .chip) .aai-without-power-down (h .aai-had a) (h .power-down-had d))) (λ d. d)
 
   aai-fits : Sound s → s .left ≡ 0 → s .aai ≡ true → (op : ℕ) → AllRows (Fits s) op (aaiRows s f)
   aai-fits h z a op =
       (λ _. given _ (long f 3) (λ _. given (ProgramWord (s .next) 1) (writable s (s .next + 2))
-      (λ w. (record { worded = h .worded a; still = z; awake = awake-in-aai h a; even = h .runs a .even }, open-of s (s .next + 2) w))))
+      (λ w. (record { aai-had = h .aai-had a; still = z; awake = awake-in-aai h a; even = h .in-aai a .next-even }, open-of s (s .next + 2) w))))
       ▹ (λ _. tt)
       ▹ (λ _. given WriteDisable (long f 1) (λ _. z))
       ▹ tt
@@ -153,4 +106,4 @@ module _ (s : State) (wp : Bool) (f : List ℕ) where
 
 -- AAI's next address leaves room for a word
 pub next-low : (s : State) → Sound s → s .next < 2097152
-next-low s h = cases (s .aai) (λ a. omega (arith, h .runs a .upto, first-le s)) (λ a. omega (arith, h .rests a))
+next-low s h = cases (s .aai) (λ a. omega (arith, h .in-aai a .next-le-first, first-le s)) (λ a. omega (arith, h .next-0-without-aai a))

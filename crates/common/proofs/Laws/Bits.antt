@@ -1,14 +1,19 @@
--- Bits of a number: of `bitAnd`, `bitOr` and a byte's complement. Numbers with the same bits are equal, and "no bit rises" is `bitAnd`.
+-- Bits of a number: of `bitAnd`, `bitOr` and a byte's complement. Numbers with the same bits are equal, and "no bit rises" is `bitAnd`. Lists of bytes.
 -- Assumes nothing.
 use mathlib.Core.Path.{_≡_, refl, sym, ap, ap₂, _∙_}
+use mathlib.Core.List.{List}
+use mathlib.Core.Logic.{⊎-elim}
 use Prim.Native.Nat.{ℕ, zero, suc, _+_, _-_, _*_, _/_, _%_, _^_, _<_, min, max, suc-le-suc}
 use native.Mathlib.Nat.{le-of-suc-le-suc, mod-eq-of-lt, not-suc-le-zero, pow-suc, zero-lt-suc}
 use native.Mathlib.Numerals.{one-add}
 use native.Mathlib.Omega.{arith}
 use lib.Arith.{bin-ind, digits-mod, lt-one}
 use lib.Bits.{bitAnd, bitOr, and-step, or-step, and-shr, or-shr, and-self, and-comm, and-zero-r, and-mask}
+use lib.ListN.{length, getD, drop, List·getD-eq-default}
 use lib.Pow.{shr-shr}
-use Rattle.common.specs.Bits.{bitAt}
+use lib.Seq.{getD-drop}
+use Rattle.common.specs.Bits.{bitAt, Bytes}
+use Rattle.common.proofs.Laws.Lists.{split}
 
 pub bit-lt : (x b : ℕ) → bitAt x b < 2
 unfolding bitAt
@@ -84,6 +89,10 @@ and-assoc x =
     ∙ sym (ap₂ (λ (h o : ℕ). bitAnd (n / 2) h * 2 + min (n % 2) o) (and-shr y z 1) (and-odd y z))
     ∙ sym (and-step n (bitAnd y z))) x
 
+-- programmed twice is programmed once
+pub and-again : (x d : ℕ) → bitAnd (bitAnd x d) d ≡ bitAnd x d
+and-again x d = and-assoc x d d ∙ ap (bitAnd x) (and-self d)
+
 pub and-or : (x y z : ℕ) → bitAnd (bitOr x y) z ≡ bitOr (bitAnd x z) (bitAnd y z)
 and-or x y z =
     bin-ind (λ (n : ℕ). (x y : ℕ) → bitAnd (bitOr x y) n ≡ bitOr (bitAnd x n) (bitAnd y n))
@@ -118,3 +127,12 @@ no-rise-part old new d h = no-rise-trans old new (bitAnd new d) h (no-rise-and n
 
 pub no-rise-or : (old x y : ℕ) → NoRise old x → NoRise old y → NoRise old (bitOr x y)
 no-rise-or old x y h g = and-or x y old ∙ ap₂ bitOr h g
+
+-- ---- lists of bytes
+
+-- by the places that it has
+pub bytes-within : (l : List ℕ) → ((k : ℕ) → k < length l → getD l k 0 < 256) → Bytes l
+bytes-within l h k = ⊎-elim (λ lt. h k lt) (λ ge. rw (List·getD-eq-default l 0 {n = k} ge) (omega arith)) (split k (length l))
+
+pub bytes-drop : (n : ℕ) (l : List ℕ) → Bytes l → Bytes (drop n l)
+bytes-drop n l b k = rw (getD-drop n l k 0) (b (n + k))

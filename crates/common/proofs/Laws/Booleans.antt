@@ -1,9 +1,7 @@
--- Tests joined by `&&`, `||`, `not`, and what they say. Names: the connective, then what is taken from it (`-l`, `-r`, `-imp`) or made (`-i`, `imp-`).
+-- Tests joined by `&&`, `||`, `not`, and what they say. Names: the connective, then what is taken from it (`-l`, `-r`, `-imp`, `-off`) or made (`-i`, `imp-`, `-none`).
 -- Assumes nothing.
 use mathlib.Core.Path.{_≡_, refl}
-use mathlib.Core.Bool.{Bool, true, false, _&&_, _||_, not, cond, false≢true, true≢false}
-use mathlib.Core.List.{List, [], _∷_}
-use borrow.Author.Tests.{not-true}
+use mathlib.Core.Bool.{Bool, true, false, _&&_, _||_, not, false≢true, true≢false}
 
 pub and-l : (a b : Bool) → a && b ≡ true → a ≡ true
 and-l true b e = refl
@@ -15,6 +13,14 @@ and-r false b e = absurd (false≢true e)
 
 pub and-i : {a b : Bool} → a ≡ true → b ≡ true → a && b ≡ true
 and-i p q = rw (p, q) refl
+
+-- an "and" that does not hold
+pub and-off : (a b : Bool) → a && b ≡ false → a ≡ true → b ≡ false
+and-off true b e h = e
+and-off false b e h = absurd (false≢true h)
+
+pub and-none : (a b : Bool) → a ≡ false → a && b ≡ false
+and-none a b h = rw h refl
 
 pub not-i : (a : Bool) → a ≡ false → not a ≡ true
 not-i a e = rw e refl

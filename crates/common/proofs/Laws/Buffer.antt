@@ -10,11 +10,11 @@ use lib.ListN.{length, take, drop, set, length-append, length-take, length-drop,
 use lib.Seq.{set-split, take-at, length-take-le, drop-append-add, drop-drop, drop-cons}
 use Rattle.common.specs.Buffer.{written, Put}
 
-pub written-nil : (at : ℕ) (buffer : List ℕ) → written at [] buffer ≡ buffer
+written-nil : (at : ℕ) (buffer : List ℕ) → written at [] buffer ≡ buffer
 unfolding written
 written-nil at buffer = ap (λ (k : ℕ). take at buffer ++ drop k buffer) (add-zero at) ∙ take-append-drop at buffer
 
-pub written-one : (at x : ℕ) (buffer : List ℕ) → at < length buffer → written at (x ∷ []) buffer ≡ set buffer at x
+written-one : (at x : ℕ) (buffer : List ℕ) → at < length buffer → written at (x ∷ []) buffer ≡ set buffer at x
 unfolding written
 written-one at x buffer h = ap (λ (k : ℕ). take at buffer ++ (x ∷ drop k buffer)) (add-one at) ∙ sym (set-split buffer at x h)
 
@@ -22,12 +22,12 @@ pub written-front : (bytes buffer : List ℕ) → written 0 bytes buffer ≡ byt
 unfolding written
 written-front bytes buffer = ap (λ (k : ℕ). bytes ++ drop k buffer) (zero-add (length bytes))
 
-pub length-written : (at : ℕ) (bytes buffer : List ℕ) → at + length bytes ≤ length buffer → length (written at bytes buffer) ≡ length buffer
+length-written : (at : ℕ) (bytes buffer : List ℕ) → at + length bytes ≤ length buffer → length (written at bytes buffer) ≡ length buffer
 unfolding written
 length-written at bytes buffer h = simp (length-append, length-take, length-drop) (omega arith)
 
 -- bytes, and further ones right behind them
-pub written-append : (at : ℕ) (xs ys buffer : List ℕ) → at ≤ length buffer
+written-append : (at : ℕ) (xs ys buffer : List ℕ) → at ≤ length buffer
     → written (at + length xs) ys (written at xs buffer) ≡ written at (xs ++ ys) buffer
 unfolding written
 written-append at xs ys buffer h =
@@ -44,7 +44,7 @@ written-append at xs ys buffer h =
 pub put-none : (at : ℕ) (buffer : List ℕ) → Put at [] buffer buffer at
 put-none at buffer = record { behind = omega arith; stored = sym (written-nil at buffer) }
 
-pub put-one : (at x : ℕ) (buffer : List ℕ) → at < length buffer → Put at (x ∷ []) buffer (set buffer at x) (at + 1)
+put-one : (at x : ℕ) (buffer : List ℕ) → at < length buffer → Put at (x ∷ []) buffer (set buffer at x) (at + 1)
 put-one at x buffer h = record { behind = omega arith; stored = sym (written-one at x buffer h) }
 
 -- what was laid at the front lies within the buffer

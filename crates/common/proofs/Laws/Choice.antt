@@ -8,13 +8,6 @@ pub cond-elim : {A : Type 0} (P : A → Type 0) (t : Bool) {a b : A} → (t ≡ 
 cond-elim P true f g = f refl
 cond-elim P false f g = g refl
 
--- and back: a choice whose test is known is its arm
-pub cond-yes : {A : Type 0} (P : A → Type 0) (t : Bool) (a b : A) → P (cond t a b) → t ≡ true → P a
-cond-yes P t a b h e = rw e at h
-
-pub cond-no : {A : Type 0} (P : A → Type 0) (t : Bool) (a b : A) → P (cond t a b) → t ≡ false → P b
-cond-no P t a b h e = rw e at h
-
 -- a proof by cases on a test
 pub cases : {P : Type 0} (t : Bool) → (t ≡ true → P) → (t ≡ false → P) → P
 cases true f g = f refl

@@ -52,16 +52,6 @@ unfolding countBelow
 count-none test zero h = refl
 count-none test (suc k) h = rw (count-none test k (λ i b. h i (omega arith)), h k (omega arith)) refl
 
--- at most all of them pass
-pub count-le : (test : ℕ → Bool) (k : ℕ) → countBelow test k ≤ k
-unfolding countBelow
-count-le test zero = omega arith
-count-le test (suc k) = omega (arith, count-le test k, step (test k))
-  where
-    step : (t : Bool) → cond t 1 0 ≤ 1
-    step true = omega arith
-    step false = omega arith
-
 -- what counts in one of two tests counts once
 pub count-sum : (test s t : ℕ → Bool) → ((k : ℕ) → cond (test k) 1 0 ≡ cond (s k) 1 0 + cond (t k) 1 0)
     → (k : ℕ) → countBelow test k ≡ countBelow s k + countBelow t k

@@ -1,7 +1,7 @@
 -- A call's refusals: number 0 means that none of the conditions holds, and another number is "given exactly when" its own condition holds and no
 -- earlier one does. Names: `clear` is none, `given` one, `first` the number that `firstOf` finds.
 -- Assumes nothing.
-use mathlib.Core.Path.{_≡_, refl, ap, _∙_}
+use mathlib.Core.Path.{_≡_, refl}
 use mathlib.Core.Bool.{Bool, true, false, cond, _||_}
 use mathlib.Core.List.{List, [], _∷_, _++_}
 use mathlib.Core.Logic.{_⊎_, inl, inr}
@@ -10,7 +10,7 @@ use native.Mathlib.Omega.{arith}
 use lib.Dec.{ltb, eqb}
 use borrow.Author.Tests.{eqb-true, eqb-false, ltb-true}
 use Rattle.common.specs.Refusals.{firstOf}
-use Rattle.common.proofs.Laws.Booleans.{and-l, and-r, or-none-l, or-none-r}
+use Rattle.common.proofs.Laws.Booleans.{or-none-l, or-none-r}
 use Rattle.common.proofs.Laws.Choice.{cases}
 
 -- ---- none of them holds
@@ -86,7 +86,7 @@ given-by r rs number h others true q false a false t e = absurd (unlisted rs num
 given-by r rs number h others false q again a true t e = absurd (eqb-false (r .0) number q e)
 given-by r rs number h others false q again a false t e = (t, others e)
 
-pub given : (rs : List (ℕ × Bool)) (number : ℕ) → 0 < number → firstOf rs ≡ number → Given number rs
+given : (rs : List (ℕ × Bool)) (number : ℕ) → 0 < number → firstOf rs ≡ number → Given number rs
 given [] number h e = omega arith
 given (r ∷ rs) number h e = given-by r rs number h (given rs number h) (eqb (r .0) number) refl (isListed number rs) refl (r .1) refl e
 
@@ -97,7 +97,7 @@ first-by r rs number others true q true (inr g) = rw (g .0) (others (g .1))
 first-by r rs number others true q false g = rw g (eqb-true (r .0) number q)
 first-by r rs number others false q again g = rw (g .0) (others (g .1))
 
-pub first-given : (rs : List (ℕ × Bool)) (number : ℕ) → Given number rs → firstOf rs ≡ number
+first-given : (rs : List (ℕ × Bool)) (number : ℕ) → Given number rs → firstOf rs ≡ number
 first-given [] number g = absurd g
 first-given (r ∷ rs) number g = first-by r rs number (first-given rs number) (eqb (r .0) number) refl (isListed number rs) g
 

@@ -8,7 +8,7 @@ use mathlib.Core.Logic.{_⊎_, inl, inr, ⊎-elim}
 use Prim.Native.Nat.{ℕ, _-_, _<_, min, max}
 use native.Mathlib.Nat.{lt-of-le-of-lt}
 use native.Mathlib.Omega.{arith}
-use lib.Bits.{bitAnd, bitOr, and-le-l, or-lt, and-zero-r, or-zero-l, or-zero-r}
+use lib.Bits.{bitAnd, bitOr, and-comm, and-le-l, or-lt, and-zero-r, or-zero-l, or-zero-r}
 use lib.Dec.{eqb}
 use lib.ListN.{getD, replicate, getD-replicate, List·getD-eq-default, length-replicate}
 use borrow.Author.Tests.{eqb-true, eqb-false}
@@ -20,7 +20,7 @@ use Rattle.effect.specs.declared.Effect.the-variants.{Keep, Fill, Progra
 use Rattle.effect.specs.Effect.{touches, struck, changed, maskLength}
 use Rattle.effect.specs.Cut.{mixed, maskPlace, cut}
 use Rattle.common.specs.Bits.{Bytes, bitAt}
-use Rattle.common.proofs.Laws.Bits.{bit-lt, bit-and, bit-or, bit-not, and-full}
+use Rattle.common.proofs.Laws.Bits.{bit-lt, bit-and, bit-or, bit-not, bits-ext, and-full, and-assoc, and-or}
 use Rattle.effect.proofs.Laws.Effect.{changed-touched, changed-other, cut-touched, cut-other}
 use Rattle.effect.proofs.Laws.Mask.{mask-place-lt}
 
@@ -35,44 +35,49 @@ mixed-bit m o n hm ho hn =
     cond-elim (λ (x : ℕ). mixedBit m o n ≡ x) (eqb m 1) (λ e. omega (arith, eqb-true m 1 e)) (λ e. omega (arith, eqb-false m 1 e))
 
 -- "takes its new bit where the mask has 1 and keeps the old where it has 0"
-pub bit-mixed : (mask old new b : ℕ) → mask < 256 → b < 8 → bitAt (mixed mask old new) b ≡ cond (eqb (bitAt mask b) 1) (bitAt new b) (bitAt old b)
+bit-mixed : (mask old new b : ℕ) → mask < 256 → b < 8 → bitAt (mixed mask old new) b ≡ cond (eqb (bitAt mask b) 1) (bitAt new b) (bitAt old b)
 unfolding mixed
 bit-mixed mask old new b h l =
     bit-or (bitAnd new mask) (bitAnd old (255 - mask)) b
     ∙ ap₂ max (bit-and new mask b) (bit-and old (255 - mask) b ∙ ap (min (bitAt old b)) (bit-not mask b h l))
     ∙ mixed-bit (bitAt mask b) (bitAt old b) (bitAt new b) (bit-lt mask b) (bit-lt old b) (bit-lt new b)
 
-pub mixed-all : (old new : ℕ) → new < 256 → mixed 255 old new ≡ new
+mixed-all : (old new : ℕ) → new < 256 → mixed 255 old new ≡ new
 unfolding mixed
 mixed-all old new h = ap₂ bitOr (and-full new h) (and-zero-r old) ∙ or-zero-r new
 
-pub mixed-none : (old new : ℕ) → old < 256 → mixed 0 old new ≡ old
+mixed-none : (old new : ℕ) → old < 256 → mixed 0 old new ≡ old
 unfolding mixed
 mixed-none old new h = ap₂ bitOr (and-zero-r new) (and-full old h) ∙ or-zero-l old
 
-pub mixed-lt : (mask old new : ℕ) → old < 256 → new < 256 → mixed mask old new < 256
+mixed-lt : (mask old new : ℕ) → old < 256 → new < 256 → mixed mask old new < 256
 unfolding mixed
 mixed-lt mask old new h g =
     or-lt 8 (bitAnd new mask) (bitAnd old (255 - mask)) (omega (arith, and-le-l new mask)) (omega (arith, and-le-l old (255 - mask)))
 
+-- a byte mixed with itself
+pub mixed-same : (mask x : ℕ) → mask < 256 → x < 256 → mixed mask x x ≡ x
+mixed-same mask x h l =
+    bits-ext 8 (mixed mask x x) x (mixed-lt mask x x l l) l
+    (λ b i. bit-mixed mask x x b h i ∙ cond-elim (λ (n : ℕ). n ≡ bitAt x b) (eqb (bitAt mask b) 1) (λ _. refl) (λ _. refl))
+
+-- some bits of a mixture are the mixture of theirs
+pub mixed-and : (mask old new d : ℕ) → bitAnd (mixed mask old new) d ≡ mixed mask (bitAnd old d) (bitAnd new d)
+unfolding mixed
+mixed-and mask old new d =
+    and-or (bitAnd new mask) (bitAnd old (255 - mask)) d ∙ ap₂ bitOr (turned new mask) (turned old (255 - mask))
+  where
+    turned : (x m : ℕ) → bitAnd (bitAnd x m) d ≡ bitAnd (bitAnd x d) m
+    turned x m = and-assoc x m d ∙ ap (bitAnd x) (and-comm m d) ∙ sym (and-assoc x d m)
+
 -- ---- bytes stay bytes
 
-pub struck-lt : (e : Effect) (f : List ℕ) (k x : ℕ) → x < 256 → struck e f k x < 256
+struck-lt : (e : Effect) (f : List ℕ) (k x : ℕ) → x < 256 → struck e f k x < 256
 unfolding struck
 struck-lt Keep f k x h = h
 struck-lt (Fill a n) f k x h = omega arith
 struck-lt (Program a n i) f k x h = lt-of-le-of-lt (and-le-l x _) h
 struck-lt (Round a n) f k x h = lt-of-le-of-lt (and-le-l x _) h
-
-module _ (e : Effect) (f : List ℕ) (k x : ℕ) (byte : x < 256) where
-  pub changed-lt : changed e f k x < 256
-  unfolding changed
-  changed-lt = cond-elim (λ (n : ℕ). n < 256) (touches e k) (λ _. struck-lt e f k x byte) (λ _. byte)
-
-  pub cut-lt : (mask : List ℕ) → cut e f mask k x < 256
-  unfolding cut
-  cut-lt mask =
-      cond-elim (λ (n : ℕ). n < 256) (touches e k) (λ _. mixed-lt (getD mask (maskPlace e k) 0) x (struck e f k x) byte (struck-lt e f k x byte)) (λ _. byte)
 
 -- ---- the byte at an address
 

@@ -3,14 +3,15 @@
 use mathlib.Core.Path.{_≡_, refl}
 use mathlib.Core.Bool.{true, false, false≢true}
 use mathlib.Core.List.{List}
-use Prim.Native.Nat.{ℕ, _+_, _/_, _≤_, _<_}
+use Prim.Native.Nat.{ℕ, _/_, _≤_, _<_}
 use native.Mathlib.Omega.{arith}
-use lib.Dec.{leb, ltb, eqb}
+use lib.Dec.{ltb, eqb}
 use lib.ListN.{getD}
-use borrow.Author.Tests.{leb-true, ltb-true, eqb-true, le-leb, lt-leb, lt-ltb, le-ltb}
+use borrow.Author.Tests.{ltb-true, eqb-true}
 use Rattle.common.proofs.Laws.Places.{within-bounds, count-none}
-use Rattle.common.proofs.Laws.Booleans.{and-l, and-r, and-i}
+use Rattle.common.proofs.Laws.Booleans.{and-l, and-r}
 use Rattle.common.proofs.Laws.Choice.{cases}
+use Rattle.effect.specs.declared.Span.{Span}
 use Rattle.effect.specs.declared.Effect.{Effect}
 use Rattle.effect.specs.declared.Effect.the-variants.{Keep, Fill, Program, Round}
 use Rattle.effect.specs.Effect.{turn, touches, struck, changed, spanOf}
@@ -18,6 +19,20 @@ use Rattle.common.specs.Lists.{within}
 use Rattle.effect.specs.Cut.{mixed, maskPlace, cut}
 
 -- ---- the span
+
+-- addresses in order, in an array of a size
+pub record Inside (p : Span) (size : ℕ) : Type 0 where
+  pub order : p .lo ≤ p .hi
+  pub within : p .hi ≤ size
+
+span-order : (e : Effect) → spanOf e .lo ≤ spanOf e .hi
+span-order Keep = omega arith
+span-order (Fill a n) = omega arith
+span-order (Program a n i) = omega arith
+span-order (Round a n) = omega arith
+
+pub span-inside : (e : Effect) (size : ℕ) → spanOf e .hi ≤ size → Inside (spanOf e) size
+span-inside e size h = record { order = span-order e; within = h }
 
 pub round-bounds : (a n k : ℕ) → touches (Round a n) k ≡ true → (k / 256 ≡ a / 256) × (turn a k < n)
 unfolding touches
@@ -33,10 +48,10 @@ touched-in-span (Program a n i) k t = within-bounds a n k t
 touched-in-span (Round a n) k t = let page = round-bounds a n k t .0 in (omega arith, omega arith)
 
 module _ (e : Effect) (k : ℕ) where
-  pub untouched-below : k < spanOf e .lo → touches e k ≡ false
+  untouched-below : k < spanOf e .lo → touches e k ≡ false
   untouched-below h = cases (touches e k) (λ t. absurd (omega (arith, touched-in-span e k t .0))) (λ t. t)
 
-  pub untouched-above : spanOf e .hi ≤ k → touches e k ≡ false
+  untouched-above : spanOf e .hi ≤ k → touches e k ≡ false
   untouched-above h = cases (touches e k) (λ t. absurd (omega (arith, touched-in-span e k t .1))) (λ t. t)
 
 -- no mask byte is used below the span

@@ -3,19 +3,18 @@
 use mathlib.Core.Path.{_≡_, refl, sym, ap₂, _∙_}
 use mathlib.Core.Bool.{Bool, true, false, cond}
 use mathlib.Core.Logic.{⊎-elim}
-use Prim.Native.Nat.{ℕ, zero, suc, _+_, _-_, _*_, _/_, _%_, _≤_, _<_, min}
-use native.Mathlib.Nat.{add-zero, eq-or-lt-of-le, le-of-suc-le-suc}
+use Prim.Native.Nat.{ℕ, _+_, _-_, _*_, _/_, _%_, _≤_, _<_, min}
+use native.Mathlib.Nat.{add-zero}
 use native.Mathlib.Omega.{arith}
-use lib.Arith.{le-zero}
-use lib.Dec.{leb, ltb, eqb}
-use borrow.Author.Tests.{leb-true, ltb-true, ltb-false, eqb-true, eqb-false, lt-ltb, le-ltb, eq-eqb}
+use lib.Dec.{ltb, eqb}
+use borrow.Author.Tests.{ltb-true, ltb-false, eqb-true, eqb-false, lt-ltb, le-ltb, eq-eqb}
 use Rattle.common.specs.Lists.{countBelow, within}
 use Rattle.common.proofs.Laws.Choice.{cond-elim, cases}
 use Rattle.common.proofs.Laws.Lists.{split}
 use Rattle.common.proofs.Laws.Places.{count-sum, count-le-count, count-within, count-turn, count-none, within-bounds, within-yes, within-below, within-above}
 use Rattle.effect.specs.declared.Effect.{Effect}
 use Rattle.effect.specs.declared.Effect.the-variants.{Keep, Fill, Program, Round}
-use Rattle.effect.specs.Effect.{pageEffect, turn, touches, spanOf, maskLength}
+use Rattle.effect.specs.Effect.{turn, touches, spanOf, maskLength}
 use Rattle.effect.specs.Cut.{maskPlace}
 use Rattle.effect.proofs.Laws.Effect.{round-bounds, touched-in-span}
 use Rattle.effect.proofs.Laws.Turn.{turn-up, turn-round}
@@ -75,7 +74,7 @@ module _ (a n : ℕ) where
       cases (eqb (k / 256) (a / 256))
       (λ e. let p = eqb-true (k / 256) (a / 256) e in ⊎-elim (one-low k p) (one-high k p) (split k a)) (one-outside k)
 
-  pub count-round : (k : ℕ) → countBelow (touches (Round a n)) k ≡ min (k - a / 256 * 256) pastEnd + min (k - a) toEnd
+  count-round : (k : ℕ) → countBelow (touches (Round a n)) k ≡ min (k - a / 256 * 256) pastEnd + min (k - a) toEnd
   count-round k =
       let l = count-within (a / 256 * 256) pastEnd k in
       let h = count-within a toEnd k in
@@ -104,13 +103,6 @@ mask-length-counts (Round a n) size h =
     (count-round a n size
     ∙ ap₂ _+_ (all-below size (a / 256 * 256) (pastEnd a n) (omega arith)) (all-below size a (toEnd a n) (omega arith))
     ∙ sym (round-length a n))
-
--- a page program: a byte for each data byte, or for each byte of the page
-pub mask-length-page : (a n : ℕ) → maskLength (pageEffect a n) ≡ min n 256
-unfolding maskLength pageEffect
-mask-length-page a n =
-    cond-elim (λ (e : Effect). maskLength e ≡ min n 256) (leb n (256 - a % 256)) (λ t. omega (arith, leb-true n (256 - a % 256) t))
-    (λ _. cond-elim (λ (m : ℕ). m ≡ min n 256) (ltb n 256) (λ t. omega (arith, ltb-true n 256 t)) (λ t. omega (arith, ltb-false n 256 t)))
 
 -- each touched address has a byte in the mask
 pub mask-place-lt : (e : Effect) (k : ℕ) → touches e k ≡ true → maskPlace e k < maskLength e

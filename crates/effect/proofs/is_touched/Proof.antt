@@ -1,4 +1,4 @@
--- `frame::effect::is_touched` meets its contract: each arm is its effect's test.
+-- `effect::is_touched` meets its contract: each arm is its effect's test.
 -- Assumes nothing.
 use mathlib.Core.Path.{refl}
 use Rattle.effect.specs.Effect.{touches}

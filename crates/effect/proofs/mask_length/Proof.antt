@@ -1,4 +1,4 @@
--- `frame::effect::mask_length` meets its contract: each arm is its effect's count.
+-- `effect::mask_length` meets its contract: each arm is its effect's count.
 -- Assumes nothing.
 use mathlib.Core.Path.{refl}
 use borrow.Author.Tests.{lt-ltb, le-ltb}

@@ -1,4 +1,4 @@
--- `frame::effect::page_effect` meets its contract: the data stays in its page, or goes round.
+-- `effect::page_effect` meets its contract: the data stays in its page, or goes round.
 -- Assumes nothing.
 use mathlib.Core.Path.{refl}
 use borrow.Author.Tests.{le-leb, lt-leb}

@@ -1,4 +1,4 @@
--- `frame::effect::span_of` meets its contract: each arm is its effect's span.
+-- `effect::span_of` meets its contract: each arm is its effect's span.
 -- Assumes nothing.
 use mathlib.Core.Path.{refl}
 use borrow.Author.Needs.{needs}

@@ -1,4 +1,4 @@
--- `frame::effect::struck_byte` meets its contract: each arm is its effect's byte.
+-- `effect::struck_byte` meets its contract: each arm is its effect's byte.
 -- Assumes nothing.
 use mathlib.Core.Path.{refl}
 use Rattle.effect.specs.Effect.{struck}

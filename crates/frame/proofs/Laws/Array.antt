@@ -1,8 +1,8 @@
--- The array after a call, whole or interrupted, accepted or refused: it keeps its length, its bytes stay bytes, what is not touched
--- or protected keeps its value, and programming turns no 0 into a 1.
+-- The array after a call, whole or interrupted, accepted or refused: it keeps its length, what is protected keeps its value, programming turns
+-- no 0 into a 1, and a cut leaves each bit as the whole frame would or as it was.
 -- Assumes nothing.
 use mathlib.Core.Path.{_≡_, refl}
-use mathlib.Core.Bool.{Bool, false}
+use mathlib.Core.Bool.{Bool}
 use mathlib.Core.List.{List}
 use mathlib.Core.Logic.{_⊎_, inr, ⊎-elim}
 use Prim.Native.Nat.{ℕ, _≤_, _<_}
@@ -18,44 +18,16 @@ use Rattle.state.specs.declared.State.{State}
 use Rattle.state.specs.Protection.{firstProtected}
 use Rattle.command.specs.Command.{commandOf}
 use Rattle.command.proofs.Laws.Fits.{fits}
-use Rattle.effect.specs.declared.Effect.{Effect}
-use Rattle.effect.specs.declared.Effect.the-variants.{Keep, Fill, Program, Round}
-use Rattle.effect.specs.Effect.{touches, struck, changed, maskLength}
-use Rattle.effect.specs.Cut.{mixed, cut}
+use Rattle.effect.specs.Effect.{changed, maskLength}
+use Rattle.effect.specs.Cut.{cut}
 use Rattle.frame.specs.Call.{frameNumber, effectAt, frameArray, cutNumber, cutArray}
 use Rattle.frame.proofs.Laws.Accepted.{Accepted, number-accepted, accepted-number, cut-number-accepted, cut-number-whole}
 use Rattle.common.specs.Bits.{Bytes, bitAt}
-use Rattle.common.proofs.Laws.Bits.{NoRise, no-rise-refl, no-rise-and, no-rise-part, no-rise-or}
-use Rattle.effect.proofs.Laws.Cut.{changed-lt, cut-lt, cut-between, ones, zeros, cut-all, cut-none}
-use Rattle.effect.proofs.Laws.Effect.{changed-other, changed-above, cut-other, cut-above}
+use Rattle.common.proofs.Laws.Bits.{NoRise, no-rise-refl}
+use Rattle.effect.proofs.Laws.Cut.{cut-between, ones, zeros, cut-all, cut-none}
+use Rattle.effect.proofs.Laws.Rise.{NoErase, changed-no-rise, cut-no-rise}
+use Rattle.effect.proofs.Laws.Effect.{changed-above, cut-above}
 use Rattle.frame.proofs.Laws.Inside.{effect-free}
-
--- ---- programming one byte
-
--- the effect is no erase
-abbrev pub NoErase : Effect → Type 0
-NoErase Keep = Unit {0}
-NoErase (Fill a n) = ⊥
-NoErase (Program a n i) = Unit {0}
-NoErase (Round a n) = Unit {0}
-
-struck-no-rise : (e : Effect) (f : List ℕ) (k x : ℕ) → NoErase e → NoRise x (struck e f k x)
-unfolding struck
-struck-no-rise Keep f k x p = no-rise-refl x
-struck-no-rise (Fill a n) f k x p = absurd p
-struck-no-rise (Program a n i) f k x p = no-rise-and x _
-struck-no-rise (Round a n) f k x p = no-rise-and x _
-
-module _ (e : Effect) (f : List ℕ) (k x : ℕ) (p : NoErase e) where
-  pub changed-no-rise : NoRise x (changed e f k x)
-  unfolding changed
-  changed-no-rise = cond-elim (NoRise x) (touches e k) (λ _. struck-no-rise e f k x p) (λ _. no-rise-refl x)
-
-  pub cut-no-rise : (mask : List ℕ) → NoRise x (cut e f mask k x)
-  unfolding cut mixed
-  cut-no-rise mask =
-      cond-elim (NoRise x) (touches e k) (λ _. no-rise-or x _ _ (no-rise-part x (struck e f k x) _ (struck-no-rise e f k x p)) (no-rise-and x _))
-      (λ _. no-rise-refl x)
 
 -- ---- an array changed byte by byte, if the call is accepted
 
@@ -87,13 +59,6 @@ module _ (s : State) (wp : Bool) (array f output : List ℕ) where
       after-each (frameNumber s (length array) (length f) (length output)) (changed (effectAt s wp f) f) array P same k
       (λ z. step (number-accepted s (length array) (length f) (length output) z))
 
-  pub frame-array-bytes : Bytes array → Bytes (frameArray s wp array f output)
-  frame-array-bytes bytes k =
-      frame-each (λ (x y : ℕ). x < 256 → y < 256) (λ x h. h) k (λ _ _ h. changed-lt (effectAt s wp f) f k (getD array k 0) h) (bytes k)
-
-  pub frame-array-outside : (k : ℕ) → touches (effectAt s wp f) k ≡ false → getD (frameArray s wp array f output) k 0 ≡ getD array k 0
-  frame-array-outside k t = frame-each (λ (x y : ℕ). y ≡ x) (λ x. refl) k (λ _ _. changed-other (effectAt s wp f) f k (getD array k 0) t)
-
   pub frame-array-protected : (k : ℕ) → firstProtected s ≤ k → getD (frameArray s wp array f output) k 0 ≡ getD array k 0
   frame-array-protected k h =
       frame-each (λ (x y : ℕ). y ≡ x) (λ x. refl) k
@@ -103,7 +68,7 @@ module _ (s : State) (wp : Bool) (array f output : List ℕ) where
   frame-no-bit-rises p k = frame-each NoRise no-rise-refl k (λ _ _. changed-no-rise (effectAt s wp f) f k (getD array k 0) p)
 
   -- an accepted one
-  pub frame-array-at : Accepted s (length array) (length f) (length output) → (k : ℕ) → k < length array
+  frame-array-at : Accepted s (length array) (length f) (length output) → (k : ℕ) → k < length array
       → getD (frameArray s wp array f output) k 0 ≡ changed (effectAt s wp f) f k (getD array k 0)
   unfolding frameArray
   frame-array-at a k b = rw (accepted-number s (length array) (length f) (length output) a) (getD-mapi (changed (effectAt s wp f) f) array k 0 b)
@@ -111,10 +76,6 @@ module _ (s : State) (wp : Bool) (array f output : List ℕ) where
 -- ---- run an interrupted frame
 
 module _ (s : State) (wp : Bool) (array f output mask : List ℕ) where
-  pub cut-array-length : length (cutArray s wp array f output mask) ≡ length array
-  unfolding cutArray
-  cut-array-length = after-length (cutNumber s wp (length array) f (length output) (length mask)) (cut (effectAt s wp f) f mask) array
-
   cut-each : (P : ℕ → ℕ → Type 0) → ((x : ℕ) → P x x) → (k : ℕ)
       → (Accepted s (length array) (length f) (length output) → k < length array → P (getD array k 0) (cut (effectAt s wp f) f mask k (getD array k 0)))
       → P (getD array k 0) (getD (cutArray s wp array f output mask) k 0)
@@ -122,13 +83,6 @@ module _ (s : State) (wp : Bool) (array f output mask : List ℕ) where
   cut-each P same k step =
       after-each (cutNumber s wp (length array) f (length output) (length mask)) (cut (effectAt s wp f) f mask) array P same k
       (λ z. step (cut-number-accepted s wp (length array) f (length output) (length mask) z .whole))
-
-  pub cut-array-bytes : Bytes array → Bytes (cutArray s wp array f output mask)
-  cut-array-bytes bytes k =
-      cut-each (λ (x y : ℕ). x < 256 → y < 256) (λ x h. h) k (λ _ _ h. cut-lt (effectAt s wp f) f k (getD array k 0) h mask) (bytes k)
-
-  pub cut-array-outside : (k : ℕ) → touches (effectAt s wp f) k ≡ false → getD (cutArray s wp array f output mask) k 0 ≡ getD array k 0
-  cut-array-outside k t = cut-each (λ (x y : ℕ). y ≡ x) (λ x. refl) k (λ _ _. cut-other (effectAt s wp f) f k (getD array k 0) mask t)
 
   pub cut-array-protected : (k : ℕ) → firstProtected s ≤ k → getD (cutArray s wp array f output mask) k 0 ≡ getD array k 0
   cut-array-protected k h =

@@ -1,11 +1,8 @@
 -- The effect of a command that fits the state lies in the array, below the first protected address.
 -- Assumes nothing.
-use Prim.Native.Nat.{ℕ, _+_, _-_, _%_, _≤_}
+use Prim.Native.Nat.{ℕ, _+_, _≤_}
 use native.Mathlib.Nat.{le-trans}
 use native.Mathlib.Omega.{arith}
-use lib.Dec.{leb}
-use borrow.Author.Tests.{leb-true}
-use Rattle.common.proofs.Laws.Choice.{cond-elim}
 use Rattle.state.specs.declared.State.{State}
 use Rattle.state.specs.State.{dataOf}
 use Rattle.state.specs.Protection.{firstProtected}
@@ -29,28 +26,14 @@ use Rattle.command.specs.declared.Command.the-variants.{
   Sleep,
 }
 use Rattle.command.specs.Fits.{Fits}
-use Rattle.effect.specs.declared.Span.{Span}
-use Rattle.effect.specs.declared.Effect.{Effect}
-use Rattle.effect.specs.declared.Effect.the-variants.{Keep, Fill, Program, Round}
 use Rattle.effect.specs.Effect.{pageEffect, spanOf}
+use Rattle.effect.proofs.Laws.Effect.{Inside, span-inside}
+use Rattle.effect.proofs.Laws.Straight.{page-below-end}
 use Rattle.frame.specs.Effect.{effectOf}
-
-pub record Inside (p : Span) (size : ℕ) : Type 0 where
-  pub order : p .lo ≤ p .hi
-  pub within : p .hi ≤ size
-
-span-order : (e : Effect) → spanOf e .lo ≤ spanOf e .hi
-span-order Keep = omega arith
-span-order (Fill a n) = omega arith
-span-order (Program a n i) = omega arith
-span-order (Round a n) = omega arith
 
 -- what is protected is whole blocks, so that a page with one free address is free
 page-free : (s : State) (a n : ℕ) → a + 1 ≤ firstProtected s → spanOf (pageEffect a n) .hi ≤ firstProtected s
-unfolding pageEffect
-page-free s a n h =
-    cond-elim (λ (e : Effect). spanOf e .hi ≤ firstProtected s) (leb n (256 - a % 256))
-    (λ t. omega (arith, leb-true n (256 - a % 256) t, first-border s .blocks)) (λ _. omega (arith, first-border s .blocks))
+page-free s a n h = omega (arith, page-below-end a n, first-border s .blocks)
 
 -- a command that fits touches nothing protected
 pub effect-free : (s : State) (c : Command) → Fits s c → spanOf (effectOf c) .hi ≤ firstProtected s
@@ -71,4 +54,4 @@ effect-free s (ProgramWord a i) k = k .1 .free
 effect-free s Sleep k = omega arith
 
 pub effect-inside : (s : State) (c : Command) → Fits s c → Inside (spanOf (effectOf c)) (dataOf s .size)
-effect-inside s c k = record { order = span-order (effectOf c); within = le-trans (effect-free s c k) (first-border s .in-size) }
+effect-inside s c k = span-inside (effectOf c) (dataOf s .size) (le-trans (effect-free s c k) (first-border s .in-size))

@@ -1,11 +1,8 @@
 -- A frame has the data bytes that its command's effect programs.
 -- Assumes nothing.
-use mathlib.Core.Path.{_≡_}
 use mathlib.Core.List.{List}
-use Prim.Native.Nat.{ℕ, _-_, _%_}
+use Prim.Native.Nat.{ℕ}
 use native.Mathlib.Omega.{arith}
-use lib.Dec.{leb}
-use Rattle.common.proofs.Laws.Choice.{cond-elim}
 use Rattle.command.specs.declared.Command.{Command}
 use Rattle.command.specs.declared.Command.the-variants.{
   Ignored,
@@ -25,12 +22,11 @@ use Rattle.command.specs.declared.Command.the-variants.{
   Sleep,
 }
 use Rattle.command.specs.Fits.{Carries}
-use Rattle.effect.specs.declared.Effect.{Effect}
-use Rattle.effect.specs.Effect.{pageEffect, Supplied}
+use Rattle.effect.specs.Effect.{Supplied}
+use Rattle.effect.proofs.Laws.Straight.{page-supplied}
 use Rattle.frame.specs.Effect.{effectOf}
 
 pub effect-supplied : (f : List ℕ) (c : Command) → Carries f c → Supplied (effectOf c) f
-unfolding pageEffect
 effect-supplied f Ignored h = tt
 effect-supplied f ReadStatus h = tt
 effect-supplied f (ReadArray a i) h = tt
@@ -43,6 +39,6 @@ effect-supplied f Arm h = tt
 effect-supplied f (WriteStatus b) h = tt
 effect-supplied f (Erase a n t) h = tt
 effect-supplied f (ProgramByte a) h = omega (arith, h)
-effect-supplied f (ProgramPage a n) h = cond-elim (λ (e : Effect). Supplied e f) (leb n (256 - a % 256)) (λ _. omega (arith, h)) (λ _. tt)
+effect-supplied f (ProgramPage a n) h = page-supplied a n f (omega (arith, h))
 effect-supplied f (ProgramWord a i) h = omega (arith, h)
 effect-supplied f Sleep h = tt

@@ -1,43 +1,44 @@
 -- The laws of `listing`: what a run on a new chip tells of it, how long it is, what it is at the edges. Two results of the call are equal.
 -- Assumes nothing.
 use mathlib.Core.Path.{_≡_, refl, sym, ap, _∙_}
-use mathlib.Core.Bool.{Bool, true, false, cond, not}
 use mathlib.Core.List.{List, [], _∷_, _++_}
-use Prim.Native.Nat.{ℕ, _+_, _≤_, _<_}
+use Prim.Native.Nat.{ℕ, _≤_, _<_}
 use native.Mathlib.Omega.{arith}
-use lib.Dec.{ltb, eqb}
+use lib.Dec.{ltb}
 use lib.ListN.{length, length-append, length-replicate}
-use borrow.Author.Tests.{eqb-true, eq-eqb, lt-ltb, le-ltb, ltb-true, ltb-false}
-use Rattle.common.proofs.Laws.Choice.{cond-elim, cases, yes, no}
-use Rattle.state.specs.declared.State.{State}
+use borrow.Author.Tests.{lt-ltb, ltb-true, ltb-false}
+use Rattle.common.proofs.Laws.Choice.{cases}
 use Rattle.chip.specs.Chip.{isKnown, chipOf}
 use Rattle.state.specs.State.{dataOf}
 use Rattle.state.specs.Power.{newState, newChip}
 use Rattle.state.specs.Status.{statusOf}
-use Rattle.state.proofs.Laws.Power.{new-sound}
-use Rattle.script.specs.Record.{Record, outputLength}
+use Rattle.state.proofs.Laws.Power.{new-sound, new-chip-known}
+use Rattle.chip.proofs.Laws.Chip.{known-5, chip-of-5}
+use Rattle.script.specs.Record.{Record}
 use Rattle.common.specs.Limits.{longestScript}
-use Rattle.script.specs.Decode.{Fault, unknownMark, wrongLength, cutShort, faultNumber, Decoded, records, badAt, decode, decodeWithin}
+use Rattle.common.specs.Refusals.{scriptTooLong}
+use Rattle.script.specs.Decode.{Fault, unknownMark, wrongLength, cutShort, faultNumber, Decoded, records, badAt, decode, decodeWithin, recordsOf}
 use Rattle.script.specs.Survey.{surveyOf, surveyed, refusedSurvey}
 use Rattle.script.specs.declared.survey.Survey.{Survey}
 use Rattle.script.proofs.Laws.Decode.{decoded-length, decoded-output}
-use Rattle.script.proofs.Laws.Survey.{fault-numbered, survey-long, survey-short, Whole, survey-whole}
+use Rattle.script.proofs.Laws.Survey.{fault-numbered, survey-long, survey-short, survey-output}
 use Rattle.run.specs.declared.Ran.{Ran}
-use Rattle.run.specs.Run.{Device, device, run, outputs}
-use Rattle.run.specs.Script.{recordsIn, recordsOf, scriptNumber, surveyedNumber, scriptAnswer, scriptOutput, ScriptRun}
-use Rattle.run.proofs.Laws.Accepted.{number-surveyed}
+use Rattle.run.specs.Run.{Device, run, outputs}
+use Rattle.run.specs.Script.{scriptNumber, ranRecords, ScriptRun}
+use Rattle.run.proofs.Laws.Accepted.{number-by-survey}
+use Rattle.run.proofs.Laws.Script.{script-ran, script-answer-number}
 use Rattle.run.proofs.Laws.Run.{outputs-length}
 use Rattle.common.specs.Buffer.{Put}
-use Rattle.listing.specs.Text.{digit, hex, decimal, line}
-use Rattle.listing.specs.Listing.{high, erased, new05pa, statusLine, refusalLine, frameLines, decodedLines, listing, cutLines}
-use Rattle.listing.proofs.Laws.Text.{length-line, length-hex, decimal-short}
+use Rattle.text.specs.Text.{digit, hex, decimal, line}
+use Rattle.listing.specs.Listing.{longestListing, high, erased, new05pa, statusLine, refusalLine, frameLines, decodedLines, listing, cutLines}
+use Rattle.text.proofs.Laws.Text.{length-line, length-hex, digit-low, decimal-two, decimal-short}
 use Rattle.listing.proofs.Laws.Frames.{lines-cut, cut-length}
 
 -- ---- a script's survey
 
 -- by the script's length, and by what its bytes are
 by-survey : (P : List ℕ → Survey → List ℕ → Type 0)
-    → ((script : List ℕ) → longestScript < length script → P script (refusedSurvey 11 0) (refusalLine 11))
+    → ((script : List ℕ) → longestScript < length script → P script (refusedSurvey scriptTooLong 0) (refusalLine scriptTooLong))
     → ((script : List ℕ) (rs : List Record) → length script ≤ longestScript → decode script ≡ records rs → P script (surveyed (records rs)) (decodedLines (records rs)))
     → ((script : List ℕ) (fault : Fault) (offset : ℕ) → P script (surveyed (badAt fault offset)) (decodedLines (badAt fault offset)))
     → (script : List ℕ) → P script (surveyOf script) (listing script)
@@ -75,9 +76,9 @@ status-length : (d : Device) → length (statusLine d) ≡ 5
 status-length d = length-line 0x53 (hex (statusOf (d .state) ∷ [])) ∙ omega (arith, length-hex (statusOf (d .state) ∷ []))
 
 -- two characters for each byte of the longest script, and the last line's five
-pub listing-fits : (script : List ℕ) → length (listing script) ≤ 65541
+pub listing-fits : (script : List ℕ) → length (listing script) ≤ longestListing
 listing-fits =
-    by-survey (λ script s text. length text ≤ 65541) (λ _ _. omega (arith, refusal-length 11))
+    by-survey (λ script s text. length text ≤ longestListing) (λ _ _. omega (arith, refusal-length scriptTooLong))
     (λ script rs short e. let d = run high rs new05pa in
     rw (lines-cut rs new05pa)
     (omega (
@@ -88,12 +89,6 @@ listing-fits =
       status-length d,
     )))
     (λ _ fault _. omega (arith, refusal-length (faultNumber fault)))
-
--- they are counted
-output-surveyed : (script : List ℕ) → surveyOf script .number ≡ 0 → outputLength (recordsOf script) ≡ surveyOf script .output
-output-surveyed =
-    by-survey (λ script s text. s .number ≡ 0 → outputLength (recordsOf script) ≡ s .output) (λ _ _ e. absurd (omega (arith, e)))
-    (λ script rs short d _. rw d refl) (λ _ fault _ e. absurd (omega (arith, e, fault-numbered fault)))
 
 -- ---- a run on a new chip
 
@@ -110,23 +105,8 @@ listing-run =
     (λ _ _ e. absurd (omega (arith, e))) (λ script rs short d _. rw d refl) (λ _ fault _ e. absurd (omega (arith, e, fault-numbered fault)))
 
 erased-length : length erased ≡ dataOf (newChip 5 .state) .size
-unfolding erased newChip newState isKnown chipOf
-erased-length = length-replicate {A = ℕ} 65536 0xff
-
--- the chip is sound and its array has its size, so that only the script can be refused
-number-surveyed-new : (script : List ℕ) (out : ℕ) → out ≡ surveyOf script .output
-    → scriptNumber (newChip 5 .state) (length erased) script out ≡ surveyOf script .number
-unfolding surveyedNumber
-number-surveyed-new script out e =
-    sym (number-surveyed (newChip 5 .state) (length erased) script out)
-    ∙ rw (
-      new-sound 5,
-      eq-eqb (length erased) (dataOf (newChip 5 .state) .size) erased-length,
-      eq-eqb out (surveyOf script .output) e,
-    ) (by-number (surveyOf script .number))
-  where
-    by-number : (n : ℕ) → cond (not (eqb n 0)) n 0 ≡ n
-    by-number n = cases (eqb n 0) (λ t. rw t (sym (eqb-true n 0 t))) (λ t. rw t refl)
+unfolding erased
+erased-length = rw (new-chip-known 5 known-5, chip-of-5) (length-replicate {A = ℕ} 65536 0xff)
 
 -- with room for the outputs: what the answer and the output tell
 module _ {script room array output : List ℕ} {ran : Ran} (lent : length room ≡ surveyOf script .output)
@@ -135,28 +115,24 @@ module _ {script room array output : List ℕ} {ran : Ran} (lent : length room �
   number = scriptNumber (newChip 5 .state) (length erased) script (length room)
 
   number-is : number ≡ surveyOf script .number
-  number-is = number-surveyed-new script (length room) lent
+  number-is = number-by-survey (newChip 5 .state) (length erased) script (length room) (new-sound 5) erased-length lent
 
   pub ran-number : ran .number ≡ surveyOf script .number
-  unfolding scriptAnswer
-  ran-number =
-      ap (λ (a : Ran). a .number) (r .answers)
-      ∙ cond-elim (λ (a : Ran). a .number ≡ surveyOf script .number) (eqb number 0) (λ t. sym (eqb-true number 0 t) ∙ number-is) (λ _. number-is)
+  ran-number = ap (λ (a : Ran). a .number) (r .answers) ∙ script-answer-number (newChip 5 .state) high erased script room ∙ number-is
 
   module _ (e : ran .number ≡ 0) where
-    taken : number ≡ 0
-    taken = number-is ∙ sym ran-number ∙ e
+    accepted : ScriptRun (newChip 5 .state) high erased script room (ranRecords (run high (recordsOf script) new05pa .state) (recordsOf script))
+        (run high (recordsOf script) new05pa .array) (outputs high (recordsOf script) new05pa)
+    accepted = script-ran (newChip 5 .state) high erased script room (number-is ∙ sym ran-number ∙ e)
 
     ran-state : ran .state ≡ run high (recordsOf script) new05pa .state
-    unfolding scriptAnswer
-    ran-state = ap (λ (a : Ran). a .state) (rw (eq-eqb number 0 taken) at (r .answers))
+    ran-state = ap (λ (a : Ran). a .state) (r .answers ∙ sym (accepted .answers))
 
     ran-output : output ≡ outputs high (recordsOf script) new05pa
-    unfolding scriptOutput
-    ran-output = rw (eq-eqb number 0 taken) at (r .output-is)
+    ran-output = r .output-is ∙ sym (accepted .output-is)
 
     pub ran-length : length output ≡ surveyOf script .output
-    ran-length = ap length ran-output ∙ outputs-length high (recordsOf script) new05pa ∙ output-surveyed script (sym ran-number ∙ e)
+    ran-length = ap length ran-output ∙ outputs-length high (recordsOf script) new05pa ∙ survey-output script (sym ran-number ∙ e)
 
     pub ran-listing : listing script ≡ cutLines (recordsOf script) output ++ line 0x53 (hex (statusOf (ran .state) ∷ []))
     ran-listing =
@@ -171,8 +147,9 @@ listing-empty = refl
 
 -- over 32,768 bytes: "R 11"
 pub listing-long : (script : List ℕ) → longestScript < length script → listing script ≡ 0x52 ∷ 0x20 ∷ 0x31 ∷ 0x31 ∷ 0x0a ∷ []
-unfolding listing decimal digit
-listing-long script h = rw (lt-ltb longestScript (length script) h) refl
+unfolding listing
+listing-long script h =
+    rw (lt-ltb longestScript (length script) h, decimal-two scriptTooLong (omega arith), digit-low 1 (omega arith)) refl
 
 pub listing-determined : (script text : List ℕ) (after after′ : List ℕ) (n n′ : ℕ) → Put 0 (listing script) text after n → Put 0 (listing script) text after′ n′
     → (n ≡ n′) × (after ≡ after′)

@@ -11,10 +11,11 @@ use Rattle.state.specs.Status.{statusOf}
 use Rattle.common.specs.Limits.{longestScript}
 use Rattle.script.specs.Survey.{surveyOf}
 use Rattle.script.specs.declared.survey.Survey.{Survey}
-use Rattle.run.specs.Script.{recordsOf, ScriptRun}
+use Rattle.run.specs.Script.{ScriptRun}
+use Rattle.script.specs.Decode.{recordsOf}
 use Rattle.common.proofs.Laws.Buffer.{Left, left-start, left-fits, left-turn, left-last}
-use Rattle.listing.specs.Text.{hex, line}
-use Rattle.listing.specs.Listing.{high, erased, listing, cutLines}
+use Rattle.text.specs.Text.{hex, line}
+use Rattle.listing.specs.Listing.{longestListing, high, erased, listing, cutLines}
 use Rattle.listing.proofs.Laws.Listing.{refusal-length, number-small, output-small, listing-fits, listing-refused, ran-number, ran-length, ran-listing}
 use borrow.Author.Needs.{needs}
 use Rattle.listing.proofs.listing.Statement.{statement}
@@ -59,7 +60,7 @@ last : (c : tie.After-put-frame-lines)
     (cutLines (recordsOf (c .before .before .before .before .before .before .before .before .before .before .before .before .before .before .before .args .script .now)) (Output (c .before .before .before .before .before .before .before)) ++ Status (c .before .before .before)) (c .before .before .before .before .before .before .before .before .before .before .before .before .before .before .before .args .text .now)
 last c =
     let lines : List ℕ = cutLines (recordsOf (c .before .before .before .before .before .before .before .before .before .before .before .before .before .before .before .args .script .now)) (Output (c .before .before .before .before .before .before .before)) in
-    let fits : length (lines ++ Status (c .before .before .before)) ≤ 65541 = rw (whole (c .before .before .before)) at (listing-fits (c .before .before .before .before .before .before .before .before .before .before .before .before .before .before .before .args .script .now)) in
+    let fits : length (lines ++ Status (c .before .before .before)) ≤ longestListing = rw (whole (c .before .before .before)) at (listing-fits (c .before .before .before .before .before .before .before .before .before .before .before .before .before .before .before .args .script .now)) in
     left-turn lines (Status (c .before .before .before))
     (left-start 0 (lines ++ Status (c .before .before .before)) (c .before .before .before .before .before .before .before .before .before .before .before .before .before .before .before .args .text .now) (omega (arith, fits, c .before .put-frame-lines-arg .given .0 .1)))
     (rw (cut (c .before .before .before)) at (c .put-frame-lines .ensures))
@@ -88,15 +89,15 @@ slice-aggregate-run-script-2 c = sym (length-take-le _ _ (inside (c .before)))
 run-script-requires : tie.Need-run-script-requires
 run-script-requires c κs = search needs
 
-put-refusal-requires : tie.Need-put-refusal-requires
-put-refusal-requires c κs =
+put-decimal-line-requires : tie.Need-put-decimal-line-requires
+put-decimal-line-requires c κs =
     let e = ran-number (lent (c .before .before .before .before .before .before)) (ran (c .before .before .before .before .before)) in
-    (rw e (number-small (c .before .before .before .before .before .before .before .before .before .before .before .before .before .args .script .now)), omega (arith, refusal-length (c .before .before .before .before .before .run-script .result .number), c .put-refusal-arg .given .0 .1))
+    (rw e (number-small (c .before .before .before .before .before .before .before .before .before .before .before .before .before .args .script .now)), omega (arith, refusal-length (c .before .before .before .before .before .run-script .result .number), c .put-decimal-line-arg .given .0 .1))
 
 returns : tie.Need-returns
 returns c =
     let e = ran-number (lent (c .before .before .before .before .before .before .before)) (ran (c .before .before .before .before .before .before)) in
-    rw (listing-refused (c .before .before .before .before .before .before .before .before .before .before .before .before .before .before .args .script .now) (λ z. c .before .before .if1 .taken (e ∙ z)), ← e) (c .put-refusal .ensures)
+    rw (listing-refused (c .before .before .before .before .before .before .before .before .before .before .before .before .before .before .args .script .now) (λ z. c .before .before .if1 .taken (e ∙ z)), ← e) (c .put-decimal-line .ensures)
 
 array-share-prefix-output : tie.Need-array-share-prefix-output
 array-share-prefix-output c =
@@ -136,7 +137,7 @@ listing-spec =
     array-borrow-prefix-output
     slice-aggregate-run-script-2
     run-script-requires
-    put-refusal-requires
+    put-decimal-line-requires
     returns
     array-share-prefix-output
     slice-aggregate-put-frame-lines

@@ -1,19 +1,17 @@
 -- A read in runs: silent bytes, then the array up to its top, then on from address 0, are the read byte by byte.
 -- Assumes nothing.
 use mathlib.Core.Path.{_≡_, refl, sym, ap, _∙_}
-use mathlib.Core.Bool.{Bool, cond, and-false}
 use mathlib.Core.List.{List}
 use mathlib.Core.Logic.{⊎-elim}
 use Prim.Native.Nat.{ℕ, _+_, _-_, _%_, _≤_, _<_, min}
 use native.Mathlib.Nat.{mod-eq-of-lt, add-mod-right}
 use native.Mathlib.Omega.{arith}
-use lib.Dec.{leb, ltb}
 use lib.ListN.{length, getD}
 use lib.Seq.{ext-getD}
 use borrow.Author.Tests.{lt-ltb, le-ltb, le-leb, lt-leb}
 use Rattle.common.specs.Lists.{mapi, tab, onRun}
 use Rattle.common.proofs.Laws.Lists.{split, length-mapi, getD-mapi, length-tab, getD-tab}
-use Rattle.output.specs.Output.{memory, since, readAt}
+use Rattle.output.specs.Output.{memory, readAt}
 
 module _ (size from at : ℕ) (array output : List ℕ) (below : from < size) (short : length output ≤ size) where
   abbrev head : ℕ

@@ -1,10 +1,11 @@
 -- `output::array_byte` meets its contract: before the data FF, then the array modulo its size.
 -- Assumes nothing.
 use mathlib.Core.Path.{refl}
+use Prim.Native.Nat.{_<_}
 use native.Mathlib.Omega.{arith}
 use borrow.Author.Tests.{lt-ltb, le-ltb}
 use Rattle.common.proofs.Laws.Choice.{yes, no}
-use Rattle.chip.proofs.Laws.Chip.{Regular, regular}
+use Rattle.chip.proofs.Laws.Chip.{regular}
 use borrow.Author.Needs.{needs}
 use Rattle.output.proofs.array_byte.Statement.{statement}
 use Rattle.output.proofs.array_byte.Tie as tie
@@ -23,8 +24,8 @@ add-byte-at c = search needs
 
 rem-byte-at : tie.Need-rem-byte-at
 rem-byte-at c =
-    let r : Regular (c .before .chip-of .result) = rw (c .before .chip-of .ensures) (regular (c .before .before .before .before .args .s .chip)) in
-    omega (arith, r .some)
+    let r : 0 < c .before .chip-of .result .size = rw (c .before .chip-of .ensures) (regular (c .before .before .before .before .args .s .chip) .size-positive) in
+    omega arith
 
 byte-at-requires : tie.Need-byte-at-requires
 byte-at-requires c κs = search needs

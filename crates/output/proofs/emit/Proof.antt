@@ -1,6 +1,5 @@
 -- `output::emit` meets its contract: a read is shown in runs, every other command byte by byte.
 -- Assumes nothing.
-use native.Mathlib.Omega.{arith}
 use Rattle.output.specs.Output.{shownAt}
 use borrow.Author.Needs.{needs}
 use Rattle.output.proofs.emit.Statement.{statement}

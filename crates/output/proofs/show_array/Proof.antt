@@ -33,7 +33,7 @@ copy-run-requires-2 : tie.Need-copy-run-requires-2
 copy-run-requires-2 c κs =
     let a = c .before .before .before .before .before .before .before .before .before .before .before .before .before in
     let k = regular (a .args .s .chip) in
-    (omega arith, search needs, omega (arith, k .some, k .blocks, a .pre .1, a .pre .2))
+    (omega arith, search needs, omega (arith, k .size-positive, k .whole-blocks, a .pre .1, a .pre .2))
 
 same-length : tie.Need-same-length
 same-length c = search needs
@@ -44,7 +44,7 @@ returns c =
     let a = p .args in
     let k = regular (a .s .chip) in
     rw (c .before .before .copy-run2 .ensures, c .before .before .before .before .before .before .copy-run .ensures, c .before .before .before .before .before .before .before .before .before .before .before .fill-run .ensures, c .before .before .before .before .before .before .before .before .smaller2 .ensures, c .before .before .before .before .before .before .before .before .before .before .before .before .before .smaller .ensures, p .pre .1)
-    (read-in-runs (dataOf (a .s) .size) (a .from) (a .at) (a .array .now) (a .output .now) (p .pre .0) (omega (arith, k .some, k .blocks, p .pre .2)))
+    (read-in-runs (dataOf (a .s) .size) (a .from) (a .at) (a .array .now) (a .output .now) (p .pre .0) (omega (arith, k .size-positive, k .whole-blocks, p .pre .2)))
 
 pub show-array-spec : {M : Type 1} → statement M
 show-array-spec =

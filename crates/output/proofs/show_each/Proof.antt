@@ -1,13 +1,13 @@
 -- `output::show_each` meets its contract: below i the output shows the command's bytes.
 -- Assumes nothing.
-use mathlib.Core.Path.{_≡_, refl, sym, ap, _∙_}
-use Prim.Native.Nat.{ℕ, _+_, _-_, _<_, _≤_}
+use mathlib.Core.Path.{_≡_, refl, _∙_}
+use Prim.Native.Nat.{ℕ, _-_, _≤_}
 use native.Mathlib.Nat.{not-suc-le-zero}
 use native.Mathlib.Omega.{arith}
-use lib.ListN.{length, getD, set, length-set}
+use lib.ListN.{length, length-set}
 use borrow.Author.Needs.{needs}
 use Rattle.common.specs.Limits.{longestFrame}
-use Rattle.common.specs.Lists.{mapi, upTo, tab}
+use Rattle.common.specs.Lists.{mapi, upTo}
 use Rattle.output.specs.Output.{shownAt, memory}
 use Rattle.common.proofs.Laws.Lists.{loop-start, loop-turn, mapi-all, mapi-tab}
 use Rattle.output.proofs.show_each.Statement.{statement}

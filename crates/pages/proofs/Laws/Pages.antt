@@ -1,8 +1,8 @@
 -- The laws of step 3: what it counts, how long it can be, that its records fit, and that it is nothing exactly where nothing changes.
 -- Assumes nothing.
 use mathlib.Core.Path.{_≡_, refl, sym, ap, _∙_}
-use mathlib.Core.Bool.{Bool, false, true≢false}
-use mathlib.Core.List.{List, [], _++_}
+use mathlib.Core.Bool.{Bool, true, false, true≢false}
+use mathlib.Core.List.{List, [], _∷_, _++_}
 use mathlib.Core.Logic.{⊎-elim}
 use Prim.Native.Nat.{ℕ, zero, suc, _+_, _-_, _*_, _≤_, _<_}
 use native.Mathlib.Omega.{arith}
@@ -10,32 +10,49 @@ use lib.Dec.{ltb}
 use lib.ListN.{length}
 use borrow.Author.Tests.{lt-ltb}
 use Rattle.common.proofs.Laws.Lists.{split, length-tab}
-use Rattle.script.specs.Record.{Record, AllFit, scriptLength, framesIn, microsecondsIn}
-use Rattle.script.proofs.Laws.Records.{script-length-append, frames-append, microseconds-append, all-fit-append}
+use Rattle.script.specs.Record.{Record, frame, wait, AllFit, scriptLength}
+use Rattle.script.proofs.Laws.Records.{all-fit-append}
+use Rattle.script.proofs.Laws.Measure.{Counts, counts-none, counts-frame, counts-wait, counts-append, counts-as, measure-is}
 use Rattle.common.specs.Bits.{bit}
+use Rattle.common.specs.Lists.{tab}
+use Rattle.common.specs.Numbers.{addressBytes}
 use Rattle.script.specs.Measure.{measureOf}
 use Rattle.common.proofs.Laws.Flags.{bit-le}
 use Rattle.pages.specs.Pages.{beforeFirst, throughLast, partLength, partRecords, pagesStep}
 use Rattle.pages.specs.Parts.{pageCount, byteCount}
-use Rattle.pages.proofs.Laws.Spans.{first-false, last-le, last-true, last-false, last-none}
+use Rattle.pages.proofs.Laws.Spans.{first-le, first-false, first-true, last-le, last-true, last-false, last-none}
 
--- ---- one page
+-- ---- the part of a page
+
+module _ (d : ℕ → Bool) (page : ℕ) where
+  -- it lies within the page, begins with a byte that changes, and none behind it does
+  pub part-within : beforeFirst d 256 page + partLength d page ≤ 256
+  unfolding partLength
+  part-within = omega (arith, first-le d 256 page, last-le d 256 page)
+
+  pub part-first : 0 < partLength d page → d (page + beforeFirst d 256 page) ≡ true
+  part-first h = first-true d 256 page (omega (arith, part-within))
+
+  pub part-behind : (k : ℕ) → page + beforeFirst d 256 page + partLength d page ≤ k → k < page + 256 → d k ≡ false
+  unfolding partLength
+  part-behind k h l = last-false d 256 page k (omega arith) l
 
 module _ (w : ℕ → ℕ) (address : ℕ) where
-  part-script : (n : ℕ) → scriptLength (partRecords w address n) ≡ 19 * bit (ltb 0 n) 1 + n
-  unfolding partRecords scriptLength
-  part-script zero = refl
-  part-script (suc n) = rw (lt-ltb 0 (suc n) (omega arith)) (omega (arith, length-tab n (λ (k : ℕ). w (address + suc k))))
+  pub part-records-none : partRecords w address 0 ≡ []
+  unfolding partRecords
+  part-records-none = refl
 
-  part-frames : (n : ℕ) → framesIn (partRecords w address n) ≡ 2 * bit (ltb 0 n) 1
-  unfolding partRecords framesIn
-  part-frames zero = refl
-  part-frames (suc n) = rw (lt-ltb 0 (suc n) (omega arith)) refl
+  pub part-records-some : (n : ℕ)
+      → partRecords w address (suc n) ≡ frame (0x06 ∷ []) ∷ frame (0x02 ∷ (addressBytes address ++ tab (suc n) (λ i. w (address + i)))) ∷ wait 1500 ∷ []
+  unfolding partRecords
+  part-records-some n = refl
 
-  part-microseconds : (n : ℕ) → microsecondsIn (partRecords w address n) ≡ 1500 * bit (ltb 0 n) 1
-  unfolding partRecords microsecondsIn
-  part-microseconds zero = refl
-  part-microseconds (suc n) = rw (lt-ltb 0 (suc n) (omega arith)) refl
+  part-counts : (n : ℕ) → Counts (partRecords w address n) (19 * bit (ltb 0 n) 1 + n) (2 * bit (ltb 0 n) 1) (1500 * bit (ltb 0 n) 1)
+  unfolding partRecords
+  part-counts zero = counts-none
+  part-counts (suc n) =
+      rw (lt-ltb 0 (suc n) (omega arith))
+      (counts-as (counts-frame (counts-frame (counts-wait counts-none 1500) _) _) (omega (arith, length-tab n (λ (k : ℕ). w (address + suc k)))) refl refl)
 
   part-fits : (n : ℕ) → n ≤ 256 → AllFit (partRecords w address n)
   unfolding partRecords
@@ -64,9 +81,15 @@ part-unchanged d page none k h l =
 
 -- ---- step 3
 
-part-le : (d : ℕ → Bool) (page : ℕ) → partLength d page ≤ 256
-unfolding partLength
-part-le d page = omega (arith, last-le d 256 page)
+module _ (w : ℕ → ℕ) (d : ℕ → Bool) (page : ℕ) where
+  pub pages-step-end : pagesStep w d 0 page ≡ []
+  unfolding pagesStep
+  pages-step-end = refl
+
+  pub pages-step-turn : (n : ℕ)
+      → pagesStep w d (suc n) page ≡ partRecords w (page + beforeFirst d 256 page) (partLength d page) ++ pagesStep w d n (page + 256)
+  unfolding pagesStep
+  pages-step-turn n = refl
 
 pub pages-le : (d : ℕ → Bool) (n page : ℕ) → pageCount d n page ≤ n
 unfolding pageCount
@@ -76,62 +99,36 @@ pages-le d (suc n) page = omega (arith, pages-le d n (page + 256), bit-le (ltb 0
 pub bytes-le : (d : ℕ → Bool) (n page : ℕ) → byteCount d n page ≤ 256 * n
 unfolding byteCount
 bytes-le d zero page = omega arith
-bytes-le d (suc n) page = omega (arith, bytes-le d n (page + 256), part-le d page)
+bytes-le d (suc n) page = omega (arith, bytes-le d n (page + 256), part-within d page)
 
 module _ (w : ℕ → ℕ) (d : ℕ → Bool) where
   abbrev part : ℕ → List Record
   part page = partRecords w (page + beforeFirst d 256 page) (partLength d page)
 
-  pages-length : (n page : ℕ) → scriptLength (pagesStep w d n page) ≡ 19 * pageCount d n page + byteCount d n page
-  unfolding pagesStep pageCount byteCount scriptLength
-  pages-length zero page = refl
-  pages-length (suc n) page =
-      omega (
-        arith,
-        script-length-append (part page) (pagesStep w d n (page + 256)),
-        part-script w (page + beforeFirst d 256 page) (partLength d page),
-        pages-length n (page + 256),
-      )
-
-  pages-frames : (n page : ℕ) → framesIn (pagesStep w d n page) ≡ 2 * pageCount d n page
-  unfolding pagesStep pageCount framesIn
-  pages-frames zero page = refl
-  pages-frames (suc n) page =
-      omega (
-        arith,
-        frames-append (part page) (pagesStep w d n (page + 256)),
-        part-frames w (page + beforeFirst d 256 page) (partLength d page),
-        pages-frames n (page + 256),
-      )
-
-  pages-microseconds : (n page : ℕ) → microsecondsIn (pagesStep w d n page) ≡ 1500 * pageCount d n page
-  unfolding pagesStep pageCount microsecondsIn
-  pages-microseconds zero page = refl
-  pages-microseconds (suc n) page =
-      omega (
-        arith,
-        microseconds-append (part page) (pagesStep w d n (page + 256)),
-        part-microseconds w (page + beforeFirst d 256 page) (partLength d page),
-        pages-microseconds n (page + 256),
-      )
+  pub pages-counts : (n page : ℕ)
+      → Counts (pagesStep w d n page) (19 * pageCount d n page + byteCount d n page) (2 * pageCount d n page) (1500 * pageCount d n page)
+  unfolding pagesStep pageCount byteCount
+  pages-counts zero page = counts-none
+  pages-counts (suc n) page =
+      counts-as (counts-append (part-counts w (page + beforeFirst d 256 page) (partLength d page)) (pages-counts n (page + 256)))
+      (omega arith) (omega arith) (omega arith)
 
   pub pages-step-measure : (n page : ℕ) → measureOf (pagesStep w d n page) ≡ record {
     length = 19 * pageCount d n page + byteCount d n page;
     frames = 2 * pageCount d n page;
     microseconds = 1500 * pageCount d n page;
   }
-  unfolding measureOf
-  pages-step-measure n page = rw (pages-length n page, pages-frames n page, pages-microseconds n page) refl
+  pages-step-measure n page = measure-is (pages-counts n page)
 
   pub pages-step-fits : (n page : ℕ) → AllFit (pagesStep w d n page)
   unfolding pagesStep
   pages-step-fits zero page = tt
   pages-step-fits (suc n) page =
-      all-fit-append (part page) (pagesStep w d n (page + 256)) (part-fits w (page + beforeFirst d 256 page) (partLength d page) (part-le d page))
+      all-fit-append (part page) (pagesStep w d n (page + 256)) (part-fits w (page + beforeFirst d 256 page) (partLength d page) (omega (arith, part-within d page)))
       (pages-step-fits n (page + 256))
 
   pub pages-step-le : (n page : ℕ) → scriptLength (pagesStep w d n page) ≤ 275 * n
-  pages-step-le n page = omega (arith, pages-length n page, pages-le d n page, bytes-le d n page)
+  pages-step-le n page = omega (arith, pages-counts n page, pages-le d n page, bytes-le d n page)
 
   -- nothing changes
   pub pages-step-none : (n page : ℕ) → ((k : ℕ) → d k ≡ false) → pagesStep w d n page ≡ []

@@ -2,18 +2,18 @@
 -- Assumes nothing.
 use mathlib.Core.Path.{_≡_, refl, sym, ap, _∙_}
 use mathlib.Core.Bool.{Bool, false, true≢false}
-use mathlib.Core.List.{List, [], _∷_, _++_}
-use mathlib.Core.Logic.{_⊎_, ⊎-elim}
+use mathlib.Core.List.{List, [], _∷_, _++_, append-nil}
+use mathlib.Core.Logic.{⊎-elim}
 use Prim.Native.Nat.{ℕ, suc, _+_, _-_, _≤_, _<_}
 use native.Mathlib.Omega.{arith}
 use lib.ListN.{length, getD, take, drop, length-drop}
 use lib.Seq.{ext-getD, getD-take, getD-drop, length-take-le}
 use Rattle.common.specs.Lists.{tab}
 use Rattle.common.proofs.Laws.Lists.{split, length-tab, getD-tab}
-use Rattle.script.specs.Record.{frame, wait, encodeRecord, encode}
+use Rattle.script.specs.Record.{frame, wait, encodeRecord, encode, frameHead}
+use Rattle.script.proofs.Laws.Records.{encode-none, encode-front, encoded-frame}
 use Rattle.region.specs.Region.{wantedAt}
 use Rattle.common.specs.Numbers.{addressBytes}
-use Rattle.script.specs.Head.{frameHead}
 use Rattle.region.proofs.Laws.Region.{wanted-inside}
 use Rattle.pages.specs.declared.Part.{Part}
 use Rattle.pages.specs.Pages.{beforeFirst, throughLast, partLength, partRecords}
@@ -78,11 +78,11 @@ partBytes start wanted from to =
 
 pub part-bytes : (start : ℕ) (wanted : List ℕ) (from to : ℕ) → start ≤ from → from < to → to ≤ start + length wanted
     → encode (partRecords (wantedAt start wanted) from (to - from)) ≡ partBytes start wanted from to
-unfolding partRecords encode encodeRecord
+unfolding partRecords
 part-bytes start wanted from to low forth high =
     let more : to - from ≡ suc (to - from - 1) = omega arith in
     let same : to - start - (from - start) ≡ suc (to - from - 1) = omega arith in
     let sent = wanted-part start wanted from (suc (to - from - 1)) low (omega arith) in
-    let long : suc (suc (suc (suc (suc (length (tab (to - from - 1) (λ (k : ℕ). wantedAt start wanted (from + suc k)))))))) ≡ 4 + suc (to - from - 1) =
-    omega (arith, length-tab (to - from - 1) (λ (k : ℕ). wantedAt start wanted (from + suc k))) in
-    rw (more, same, ← sent, long) refl
+    let body : List ℕ = 0x02 ∷ (addressBytes from ++ tab (suc (to - from - 1)) (λ i. wantedAt start wanted (from + i))) in
+    let long : length body ≡ 4 + suc (to - from - 1) = omega (arith, length-tab (to - from - 1) (λ (k : ℕ). wantedAt start wanted (from + suc k))) in
+    rw (more, same, ← sent, encode-front, encode-front, encode-front, encode-none, append-nil (encodeRecord (wait 1500)), encoded-frame body, long) refl

@@ -3,15 +3,16 @@
 use mathlib.Core.Path.{_≡_, refl, sym, _∙_}
 use mathlib.Core.Bool.{Bool}
 use mathlib.Core.List.{List, [], _++_}
-use mathlib.Core.Logic.{_⊎_, ⊎-elim}
+use mathlib.Core.Logic.{⊎-elim}
 use Prim.Native.Nat.{ℕ, suc, _+_, _-_, _*_, _/_, _%_, _≤_, _<_}
 use native.Mathlib.Omega.{arith}
 use mir.Val.{boolByte}
 use lib.Dec.{ltb}
 use borrow.Author.Tests.{lt-ltb, le-ltb}
 use Rattle.common.proofs.Laws.Lists.{split}
+use Rattle.common.specs.Limits.{longestWanted}
 use Rattle.script.specs.Record.{encode}
-use Rattle.script.proofs.Laws.Records.{encode-append}
+use Rattle.script.proofs.Laws.Records.{encode-append, encode-none}
 use Rattle.common.proofs.Laws.Flags.{flag-is}
 use Rattle.pages.specs.declared.Part.{Part}
 use Rattle.pages.specs.Pages.{partRecords, pagesStep, pagesIn}
@@ -38,7 +39,7 @@ pub record Counting (d : ℕ → Bool) (end page pages bytes allPages allBytes :
   pub few : allPages ≤ 17
   pub short : allBytes ≤ 4352
 
-pub counting-start : (d : ℕ → Bool) (start n : ℕ) → n ≤ 4096
+pub counting-start : (d : ℕ → Bool) (start n : ℕ) → n ≤ longestWanted
     → Counting d (start + n) (start / 256 * 256) 0 0 (pageCount d (pagesIn start n) (start / 256 * 256)) (byteCount d (pagesIn start n) (start / 256 * 256))
 counting-start d start n h =
     let e : pagesLeft (start + n) (start / 256 * 256) ≡ pagesIn start n = omega arith in
@@ -88,5 +89,5 @@ module _ (w : ℕ → ℕ) (d : ℕ → Bool) where
       (encode-append (partRecords w (part .from) (part .to - part .from)) (pagesStep w d (pagesLeft end (page + 256)) (page + 256)))
 
   pub pages-end : (end page : ℕ) → page % 256 ≡ 0 → end ≤ page → encode (pagesStep w d (pagesLeft end page) page) ≡ []
-  unfolding pagesStep encode
-  pages-end end page aligned h = rw (none-left end page aligned h) refl
+  unfolding pagesStep
+  pages-end end page aligned h = rw (none-left end page aligned h) encode-none

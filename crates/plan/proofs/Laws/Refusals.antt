@@ -9,7 +9,7 @@ use native.Mathlib.Omega.{arith}
 use lib.Dec.{ltb, eqb}
 use lib.ListN.{length}
 use borrow.Author.Tests.{lt-ltb, le-ltb, eq-eqb, ltb-false, eqb-true, not-false}
-use Rattle.common.specs.Refusals.{firstOf}
+use Rattle.common.specs.Refusals.{statusLocked, bufferTooShort, firstOf}
 use Rattle.common.proofs.Laws.Booleans.{or-none-l, or-none-r}
 use Rattle.common.proofs.Laws.Lists.{split}
 use Rattle.common.proofs.Laws.Refusals.{Clear, clear, Exactly, Given, given-exactly, first-behind, first-before}
@@ -81,11 +81,11 @@ module _ (s : State) (array : List ℕ) (start : ℕ) (wanted : List ℕ) where
   region-inside sized six = record {
     short = ltb-false longestWanted (length wanted) (or-none-l (ltb longestWanted (length wanted)) (ltb (dataOf s .size) (start + length wanted)) six);
     fits = rw sized (ltb-false (dataOf s .size) (start + length wanted) (or-none-r (ltb longestWanted (length wanted)) (ltb (dataOf s .size) (start + length wanted)) six));
-    small = rw sized (regular (s .chip) .small);
+    small = rw sized (regular (s .chip) .size-le-mebibyte);
   }
 
   pub accepted-inside : RegionAccepted s array start wanted → Inside array start wanted
-  accepted-inside a = record { short = a .short; fits = rw (a .sized) (a .fits); small = rw (a .sized) (regular (s .chip) .small) }
+  accepted-inside a = record { short = a .short; fits = rw (a .sized) (a .fits); small = rw (a .sized) (regular (s .chip) .size-le-mebibyte) }
 
   module _ (wp : Bool) (room : ℕ) where
     -- each number exactly when its own condition holds and no earlier one does
@@ -98,17 +98,17 @@ module _ (s : State) (array : List ℕ) (start : ℕ) (wanted : List ℕ) where
     unfolding planRefusal
     refusal-region number h e = first-before (regionRefusals s array start wanted) (scriptRefusals s wp array start wanted room) number h e
 
-    pub refusal-9 : firstOf (regionRefusals s array start wanted) ≡ 0 → (stepOneNeeded s array start wanted && s .bpl && not wp) ≡ true
-        → planRefusal s wp array start wanted room ≡ 9
+    pub refusal-locked : firstOf (regionRefusals s array start wanted) ≡ 0 → (stepOneNeeded s array start wanted && s .bpl && not wp) ≡ true
+        → planRefusal s wp array start wanted room ≡ statusLocked
     unfolding planRefusal
-    refusal-9 e nine = first-behind (regionRefusals s array start wanted) (scriptRefusals s wp array start wanted room) (region-clear e) ∙ rw nine refl
+    refusal-locked e locked = first-behind (regionRefusals s array start wanted) (scriptRefusals s wp array start wanted room) (region-clear e) ∙ rw locked refl
 
-    pub refusal-10 : firstOf (regionRefusals s array start wanted) ≡ 0 → (stepOneNeeded s array start wanted && s .bpl && not wp) ≡ false
-        → room < length (encode (planRecords s array start wanted)) → planRefusal s wp array start wanted room ≡ 10
+    pub refusal-short : firstOf (regionRefusals s array start wanted) ≡ 0 → (stepOneNeeded s array start wanted && s .bpl && not wp) ≡ false
+        → room < length (encode (planRecords s array start wanted)) → planRefusal s wp array start wanted room ≡ bufferTooShort
     unfolding planRefusal
-    refusal-10 e nine ten =
+    refusal-short e locked short =
         first-behind (regionRefusals s array start wanted) (scriptRefusals s wp array start wanted room) (region-clear e)
-        ∙ rw (nine, lt-ltb room (length (encode (planRecords s array start wanted))) ten) refl
+        ∙ rw (locked, lt-ltb room (length (encode (planRecords s array start wanted))) short) refl
 
     -- accepted: number 0, and the same in words
     pub of-accepted : Accepted s wp array start wanted room → planRefusal s wp array start wanted room ≡ 0

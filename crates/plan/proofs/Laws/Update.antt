@@ -7,8 +7,9 @@ use Prim.Native.Nat.{ℕ, _<_}
 use native.Mathlib.Omega.{arith}
 use lib.ListN.{length}
 use borrow.Author.Tests.{ne-eqb}
-use Rattle.script.specs.Record.{Record, encode, framesIn, microsecondsIn}
-use Rattle.script.proofs.Laws.Records.{encoded-length}
+use Rattle.script.specs.Record.{Record, encode}
+use Rattle.script.proofs.Laws.Records.{encoded-length, encode-none}
+use Rattle.script.proofs.Laws.Measure.{counts-none, measured}
 use Rattle.state.specs.declared.State.{State}
 use Rattle.script.specs.declared.measure.Measure.{Measure}
 use Rattle.common.specs.Buffer.{written}
@@ -21,8 +22,7 @@ use Rattle.plan.specs.Update.{givenRecords, refusedPlan, PlanUpdated}
 
 -- the length that was measured is that of the script
 pub measured-length : (rs : List Record) (m : Measure) → m ≡ measureOf rs → m .length ≡ length (encode rs)
-unfolding measureOf
-measured-length rs m e = rw e (sym (encoded-length rs))
+measured-length rs m e = rw e (sym (measured rs .bytes) ∙ sym (encoded-length rs))
 
 module _ (s : State) (wp : Bool) (array : List ℕ) (start : ℕ) (wanted buffer : List ℕ) where
   abbrev number : ℕ
@@ -32,36 +32,35 @@ module _ (s : State) (wp : Bool) (array : List ℕ) (start : ℕ) (wanted buffer
   unfolding givenRecords
   nothing-given h = rw (ne-eqb number 0 (λ e. omega arith)) refl
 
-  plan-given : number ≡ 0 → givenRecords s wp array start wanted (length buffer) ≡ planRecords s array start wanted
+  pub plan-given : number ≡ 0 → givenRecords s wp array start wanted (length buffer) ≡ planRecords s array start wanted
   unfolding givenRecords
   plan-given e = rw e refl
 
   -- "A refusal changes no buffer and returns the given state, length and counts 0"
   pub plan-refused : (n : ℕ) → 0 < n → number ≡ n → PlanUpdated s wp array start wanted buffer buffer (refusedPlan n s)
-  unfolding encode framesIn microsecondsIn
   plan-refused n h e =
       let none = nothing-given (rw e h) in
       record {
         number = sym e;
         state = refl;
-        length = rw none refl;
-        frames = rw none refl;
-        microseconds = rw none refl;
-        buffer-after = rw none refl;
+        length = rw (none, encode-none) refl;
+        frames = rw none (sym (counts-none .frames));
+        microseconds = rw none (sym (counts-none .microseconds));
+        buffer-after = rw (none, encode-none) refl;
       }
 
   pub plan-accepted : number ≡ 0 → (m : Measure) → m ≡ measureOf (planRecords s array start wanted)
       → (after : List ℕ) → after ≡ written 0 (encode (planRecords s array start wanted)) buffer
       → PlanUpdated s wp array start wanted buffer after record { number = 0; state = s; length = m .length; frames = m .frames; microseconds = m .microseconds }
-  unfolding measureOf
   plan-accepted e m q after w =
       let given = plan-given e in
+      let counted = measured (planRecords s array start wanted) in
       record {
         number = sym e;
         state = refl;
-        length = rw (given, q) (sym (encoded-length (planRecords s array start wanted)));
-        frames = rw (given, q) refl;
-        microseconds = rw (given, q) refl;
+        length = rw given (measured-length (planRecords s array start wanted) m q);
+        frames = rw (given, q) (sym (counted .frames));
+        microseconds = rw (given, q) (sym (counted .microseconds));
         buffer-after = rw given (w ∙ written-front (encode (planRecords s array start wanted)) buffer);
       }
 

@@ -3,12 +3,12 @@
 use mathlib.Core.Path.{_≡_, sym, _∙_}
 use native.Mathlib.Omega.{arith}
 use borrow.Author.Needs.{needs}
-use Rattle.common.specs.Refusals.{firstOf}
+use Rattle.common.specs.Refusals.{statusLocked, bufferTooShort, firstOf}
 use Rattle.state.proofs.Laws.Soundness.{sound-of}
 use Rattle.region.specs.Region.{Inside}
 use Rattle.plan.specs.Plan.{planRecords}
 use Rattle.plan.specs.Refusals.{regionRefusals}
-use Rattle.plan.proofs.Laws.Refusals.{region-accepted, accepted-inside, refusal-region, refusal-9, refusal-10, of-accepted}
+use Rattle.plan.proofs.Laws.Refusals.{region-accepted, accepted-inside, refusal-region, refusal-locked, refusal-short, of-accepted}
 use Rattle.plan.proofs.Laws.Update.{measured-length, plan-refused, plan-accepted}
 use Rattle.plan.proofs.plan_update.Statement.{statement}
 use Rattle.plan.proofs.plan_update.Tie as tie
@@ -40,7 +40,7 @@ refused-plan-requires-2 c κs = search needs
 returns-2 : tie.Need-returns-2
 returns-2 c =
     rw (c .refused-plan2 .ensures)
-    (plan-refused _ _ _ _ _ _ 9 (omega arith) (refusal-9 _ _ _ _ _ _ (passed (c .before .before .before .before)) (rw (c .before .before .before .step-one-needed .ensures) at (c .before .if2 .taken))))
+    (plan-refused _ _ _ _ _ _ statusLocked (omega arith) (refusal-locked _ _ _ _ _ _ (passed (c .before .before .before .before)) (rw (c .before .before .before .step-one-needed .ensures) at (c .before .if2 .taken))))
 
 measure-plan-requires : tie.Need-measure-plan-requires
 measure-plan-requires c κs = (inside (c .before .before .before), c .before .before .step-one-needed .ensures)
@@ -56,13 +56,13 @@ returns-3 c =
     let a = c .before .before .before .before .before .before .before .before .before .before .before .before .args in
     let long = measured-length (planRecords (a .s) (a .array .now) (a .start) (a .wanted .now)) (c .before .before .before .measure-plan .result) (c .before .before .before .measure-plan .ensures) in
     rw (c .refused-plan3 .ensures)
-    (plan-refused _ _ _ _ _ _ 10 (omega arith) (refusal-10 _ _ _ _ _ _ (passed (c .before .before .before .before .before .before .before)) (rw (c .before .before .before .before .before .before .step-one-needed .ensures) at (c .before .before .before .before .if2 .left)) (omega arith)))
+    (plan-refused _ _ _ _ _ _ bufferTooShort (omega arith) (refusal-short _ _ _ _ _ _ (passed (c .before .before .before .before .before .before .before)) (rw (c .before .before .before .before .before .before .step-one-needed .ensures) at (c .before .before .before .before .if2 .left)) (omega arith)))
 
 put-plan-requires : tie.Need-put-plan-requires
 put-plan-requires c κs =
     let a = c .before .before .before .before .before .before .before .before .before .before .before .before .args in
     let long = measured-length (planRecords (a .s) (a .array .now) (a .start) (a .wanted .now)) (c .before .before .before .measure-plan .result) (c .before .before .before .measure-plan .ensures) in
-    (inside (c .before .before .before .before .before .before .before), (sound-of (a .s) (region-accepted (a .s) (a .array .now) (a .start) (a .wanted .now) (passed (c .before .before .before .before .before .before .before)) .sound) .level, (c .before .before .before .before .before .before .step-one-needed .ensures, omega arith)))
+    (inside (c .before .before .before .before .before .before .before), (sound-of (a .s) (region-accepted (a .s) (a .array .now) (a .start) (a .wanted .now) (passed (c .before .before .before .before .before .before .before)) .sound) .bp-le-7, (c .before .before .before .before .before .before .step-one-needed .ensures, omega arith)))
 
 same-length : tie.Need-same-length
 same-length c = search needs

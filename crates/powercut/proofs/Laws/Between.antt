@@ -1,25 +1,16 @@
 -- A byte on its way from what it was to what it is to be: programming and a cut keep it so, and each of its bits is the one's or the other's.
 -- Assumes nothing.
-use mathlib.Core.Path.{_≡_, refl, sym, ap, ap₂, _∙_}
-use mathlib.Core.List.{List, [], _∷_}
+use mathlib.Core.Path.{_≡_, refl, sym, ap, _∙_}
 use mathlib.Core.Logic.{_⊎_, inl, inr}
-use Prim.Native.Nat.{ℕ, zero, suc, _-_, _<_, min}
+use Prim.Native.Nat.{ℕ, zero, suc, _<_, min}
 use native.Mathlib.Nat.{lt-of-le-of-lt}
 use native.Mathlib.Omega.{arith}
-use lib.Bits.{bitAnd, bitOr, and-self, and-comm, and-le-l, and-le-r}
-use lib.Dec.{eqb}
-use Rattle.common.proofs.Laws.Choice.{cond-elim}
-use Rattle.script.specs.Record.{AllBytes}
+use lib.Bits.{bitAnd, and-self, and-le-l, and-le-r}
 use Rattle.effect.specs.Cut.{mixed}
-use Rattle.common.specs.Bits.{Bytes, bitAt}
-use Rattle.common.proofs.Laws.Bits.{bit-lt, bit-and, bits-ext, and-assoc, and-or, NoRise, no-rise-refl, no-rise-trans, no-rise-and, no-rise-part, no-rise-or}
-use Rattle.effect.proofs.Laws.Cut.{bit-mixed, mixed-lt}
-
--- a list of bytes, place by place
-pub bytes-of : (l : List ℕ) → AllBytes l → Bytes l
-bytes-of [] b k = omega arith
-bytes-of (x ∷ l) b zero = b .0
-bytes-of (x ∷ l) b (suc k) = bytes-of l (b .1) k
+use Rattle.common.specs.Bits.{bitAt}
+use Rattle.common.proofs.Laws.Bits.{bit-lt, bit-and, and-assoc, NoRise, no-rise-refl, no-rise-trans, no-rise-and, no-rise-part, and-again}
+use Rattle.effect.proofs.Laws.Cut.{mixed-same, mixed-and}
+use Rattle.effect.proofs.Laws.Rise.{mixed-no-rise}
 
 -- from `old`, with `want` programmed into it: it has no bit that `old` has not, and lacks none that both have
 pub record Between (old want now : ℕ) : Type 0 where
@@ -28,16 +19,6 @@ pub record Between (old want now : ℕ) : Type 0 where
 
 pub between-start : (old want : ℕ) → Between old want old
 between-start old want = record { under = no-rise-refl old; over = refl }
-
--- and twice is once
-pub and-again : (x w : ℕ) → bitAnd (bitAnd x w) w ≡ bitAnd x w
-and-again x w = and-assoc x w w ∙ ap (bitAnd x) (and-self w)
-
--- a byte mixed with itself
-mixed-same : (mask x : ℕ) → mask < 256 → x < 256 → mixed mask x x ≡ x
-mixed-same mask x h l =
-    bits-ext 8 (mixed mask x x) x (mixed-lt mask x x l l) l
-    (λ b i. bit-mixed mask x x b h i ∙ cond-elim (λ (n : ℕ). n ≡ bitAt x b) (eqb (bitAt mask b) 1) (λ _. refl) (λ _. refl))
 
 module _ {old want now : ℕ} (h : Between old want now) where
   -- each bit is the old one or the wanted one
@@ -60,17 +41,11 @@ module _ {old want now : ℕ} (h : Between old want now) where
 
   -- programming cut short
   pub between-mixed : (mask : ℕ) → mask < 256 → old < 256 → Between old want (mixed mask now (bitAnd now want))
-  unfolding mixed
   between-mixed mask hm ho =
       let new : ℕ = bitAnd now want in
-      let fallen : bitAnd (bitAnd new mask) want ≡ bitAnd new mask =
-      and-assoc new mask want ∙ ap (bitAnd new) (and-comm mask want) ∙ sym (and-assoc new want mask) ∙ ap (λ (x : ℕ). bitAnd x mask) (and-again now want) in
-      let kept : bitAnd (bitAnd now (255 - mask)) want ≡ bitAnd new (255 - mask) =
-      and-assoc now (255 - mask) want ∙ ap (bitAnd now) (and-comm (255 - mask) want) ∙ sym (and-assoc now want (255 - mask)) in
       record {
-        under = no-rise-trans old now (mixed mask now new) (h .under)
-            (no-rise-or now (bitAnd new mask) (bitAnd now (255 - mask)) (no-rise-part now new mask (no-rise-and now want)) (no-rise-and now (255 - mask)));
-        over = and-or (bitAnd new mask) (bitAnd now (255 - mask)) want ∙ ap₂ bitOr fallen kept
+        under = no-rise-trans old now (mixed mask now new) (h .under) (mixed-no-rise mask now new (no-rise-and now want));
+        over = mixed-and mask now new want ∙ ap (mixed mask new) (and-again now want)
             ∙ mixed-same mask new hm (lt-of-le-of-lt (and-le-l now want) (between-lt ho)) ∙ h .over;
       }
 

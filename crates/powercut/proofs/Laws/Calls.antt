@@ -1,29 +1,30 @@
 -- The calls together: what planning writes at the front of the buffer is a script, and running it on the same chip completes the update, with the counts as planned.
 -- Assumes nothing.
-use mathlib.Core.Path.{_≡_, refl, sym, ap, ap₂, _∙_}
+use mathlib.Core.Path.{_≡_, sym, ap, ap₂, _∙_}
 use mathlib.Core.Bool.{Bool}
 use mathlib.Core.List.{List, _∷_, _++_}
 use Prim.Native.Nat.{ℕ}
 use native.Mathlib.Omega.{arith}
 use lib.ListN.{length, take, drop}
 use lib.Seq.{take-at}
-use lib.Dec.{eqb}
-use borrow.Author.Tests.{eqb-true}
-use Rattle.common.proofs.Laws.Choice.{cases}
+use Rattle.common.specs.Bits.{Bytes}
 use Rattle.state.specs.declared.State.{State}
 use Rattle.state.specs.declared.Answer.{Answer}
 use Rattle.state.specs.State.{dataOf}
-use Rattle.state.specs.Answer.{answered}
-use Rattle.state.specs.Power.{poweredUp, powerUp}
-use Rattle.script.specs.Record.{Record, frame, AllBytes, encode, framesIn, microsecondsIn, outputLength}
+use Rattle.state.specs.Power.{powerUp}
+use Rattle.script.specs.Record.{Record, frame, encode, framesIn, microsecondsIn, outputLength}
 use Rattle.script.proofs.Laws.Records.{encoded-length}
 use Rattle.state.proofs.Laws.Soundness.{sound-of}
-use Rattle.frame.specs.Call.{stateAt, cutAnswer, cutArray, CutRun}
+use Rattle.frame.specs.Call.{CutRun}
 use Rattle.frame.proofs.Laws.Accepted.{cut-number-accepted}
+use Rattle.frame.proofs.Laws.Call.{cut-answer-number, cut-buffer-free}
 use Rattle.run.specs.declared.Ran.{Ran}
 use Rattle.run.specs.Run.{Device, device, run}
-use Rattle.run.specs.Script.{recordsOf, scriptNumber, ranRecords, scriptAnswer, scriptArray, ScriptRun}
+use Rattle.run.specs.Script.{scriptNumber, ranRecords, scriptAnswer, scriptArray, ScriptRun}
+use Rattle.script.specs.Decode.{recordsOf}
 use Rattle.run.proofs.Laws.Accepted.{accepted-number, encoded-accepted}
+use Rattle.run.proofs.Laws.Script.{script-ran}
+use Rattle.plan.proofs.Laws.Update.{plan-given}
 use Rattle.plan.specs.declared.Planned.{Planned}
 use Rattle.plan.specs.Plan.{planRecords}
 use Rattle.plan.specs.Refusals.{planRefusal}
@@ -46,8 +47,7 @@ module _ (s : State) (wp : Bool) (array : List ℕ) (start : ℕ) (wanted buffer
   accepted = sym (plans .number) ∙ good
 
   given : givenRecords s wp array start wanted (length buffer) ≡ records
-  unfolding givenRecords
-  given = rw accepted refl
+  given = plan-given s wp array start wanted buffer accepted
 
   pub script-is : script ≡ encode records
   script-is =
@@ -59,21 +59,19 @@ module _ (s : State) (wp : Bool) (array : List ℕ) (start : ℕ) (wanted buffer
   reads-back = rw script-is (script-read-back s array start wanted)
 
   module _ (output : List ℕ) (long : length output ≡ outputLength records) where
-    -- the runner takes it, with room for its outputs
-    pub script-taken : scriptNumber s (length array) script (length output) ≡ 0
-    script-taken =
+    -- the runner accepts it, with room for its outputs
+    pub plan-script-accepted : scriptNumber s (length array) script (length output) ≡ 0
+    plan-script-accepted =
         let a = accepted-of s array start wanted wp (length buffer) accepted .region in
         rw (a .sized, script-is, long)
         (accepted-number s (dataOf s .size) (encode records) (outputLength records)
         (encoded-accepted s records (sound-of s (a .sound)) (plan-fits s array start wanted) (omega (arith, encoded-length records, plan-le s array start wanted (a .short)))))
 
     answer-is : scriptAnswer s wp array script output ≡ ranRecords (run wp records (device s array) .state) records
-    unfolding scriptAnswer
-    answer-is = rw (script-taken, reads-back) refl
+    answer-is = rw reads-back at (sym (script-ran s wp array script output plan-script-accepted .answers))
 
     leaves : scriptArray s wp array script output ≡ run wp records (device s array) .array
-    unfolding scriptArray
-    leaves = rw (script-taken, reads-back) refl
+    leaves = rw reads-back at (sym (script-ran s wp array script output plan-script-accepted .array-is))
 
     -- the chip is then the one behind the plan
     pub run-finished : (ran : Ran) (arrayAfter outputAfter : List ℕ) → ScriptRun s wp array script output ran arrayAfter outputAfter
@@ -81,7 +79,7 @@ module _ (s : State) (wp : Bool) (array : List ℕ) (start : ℕ) (wanted buffer
     unfolding Finished
     run-finished ran arrayAfter outputAfter runs = ap₂ device (ap (λ (r : Ran). r .state) (runs .answers ∙ answer-is)) (runs .array-is ∙ leaves)
 
-    pub run-as-planned : AllBytes array → (ran : Ran) (arrayAfter outputAfter : List ℕ) → ScriptRun s wp array script output ran arrayAfter outputAfter
+    pub run-as-planned : Bytes array → (ran : Ran) (arrayAfter outputAfter : List ℕ) → ScriptRun s wp array script output ran arrayAfter outputAfter
         → RunAsPlanned s array start wanted planned ran arrayAfter
     run-as-planned bytes ran arrayAfter outputAfter runs =
         let answers = runs .answers ∙ answer-is in
@@ -96,9 +94,6 @@ module _ (s : State) (wp : Bool) (array : List ℕ) (start : ℕ) (wanted buffer
 
 -- ---- the power is cut: power-up behind some records, or an interrupted frame, as its call is accepted
 
-answered-number : (number : ℕ) (s t : State) → answered number s t .number ≡ 0 → number ≡ 0
-answered-number number s t e = cases (eqb number 0) (λ h. eqb-true number 0 h) (λ h. rw h at e)
-
 module _ (s : State) (wp : Bool) (array : List ℕ) (start : ℕ) (wanted : List ℕ) (before : List Record) where
   abbrev met : Device
   met = run wp before (device s array)
@@ -109,11 +104,12 @@ module _ (s : State) (wp : Bool) (array : List ℕ) (start : ℕ) (wanted : List
   power-up-lost after e answer is = rw is (between before after e)
 
   -- whatever the output's buffer held
-  pub cut-frame-lost : (after : List Record) (f output mask : List ℕ) → planRecords s array start wanted ≡ before ++ (frame f ∷ after) → AllBytes mask
+  pub cut-frame-lost : (after : List Record) (f output mask : List ℕ) → planRecords s array start wanted ≡ before ++ (frame f ∷ after) → Bytes mask
       → (answer : Answer) (arrayAfter outputAfter : List ℕ) → CutRun (met .state) wp (met .array) f output mask answer arrayAfter outputAfter → answer .number ≡ 0
       → PowerLost s wp array start wanted (device (answer .state) arrayAfter)
-  unfolding PowerLost cutAnswer cutArray
+  unfolding PowerLost
   cut-frame-lost after f output mask e bytes answer arrayAfter outputAfter r good =
-      let number = answered-number _ (met .state) (poweredUp (stateAt (met .state) wp f)) (sym (ap (λ (a : Answer). a .number) (r .answers)) ∙ good) in
-      let taken = cut-number-accepted (met .state) wp (length (met .array)) f (length output) (length mask) number in
-      rw (ap (λ (a : Answer). a .state) (r .answers), r .array-is, taken .whole .same) (inside before after f mask e bytes (taken .masked))
+      let number = sym (cut-answer-number (met .state) wp (met .array) f output mask) ∙ sym (ap (λ (a : Answer). a .number) (r .answers)) ∙ good in
+      let a = cut-number-accepted (met .state) wp (length (met .array)) f (length output) (length mask) number in
+      let free = cut-buffer-free (a .whole .same) (rw (a .whole .same) at number) r in
+      rw (ap (λ (a : Answer). a .state) (free .answers), free .array-is) (inside before after f mask e bytes (a .masked))

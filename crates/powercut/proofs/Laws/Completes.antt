@@ -1,32 +1,26 @@
 -- An accepted plan, run uncut, completes the update; and no call on the way is refused.
 -- Assumes nothing.
-use mathlib.Core.Path.{_≡_, refl, sym}
+use mathlib.Core.Path.{refl}
 use mathlib.Core.Bool.{Bool}
 use mathlib.Core.List.{List}
 use mathlib.Core.Logic.{⊎-elim}
 use Prim.Native.Nat.{ℕ, _+_}
 use lib.ListN.{length}
 use Rattle.common.proofs.Laws.Lists.{split}
+use Rattle.common.proofs.Laws.Places.{within-above}
 use Rattle.state.specs.declared.State.{State}
-use Rattle.state.specs.Answer.{granted}
-use Rattle.state.specs.Power.{poweredUp, powerUp}
-use Rattle.state.specs.Soundness.{Sound}
-use Rattle.state.proofs.Laws.Answer.{answer-sound}
-use Rattle.state.proofs.Laws.Soundness.{sound-of, of-sound}
+use Rattle.state.proofs.Laws.Power.{power-up-granted}
+use Rattle.state.proofs.Laws.Soundness.{sound-of}
 use Rattle.common.specs.Bits.{Bytes}
 use Rattle.run.specs.Run.{device, run}
-use Rattle.run.proofs.Laws.Run.{Ready, run-ready, frame-among-taken}
+use Rattle.run.proofs.Laws.Run.{Ready, run-ready, frame-accepted-among}
 use Rattle.plan.specs.Plan.{planRecords}
 use Rattle.plan.specs.Refusals.{Accepted}
 use Rattle.plan.proofs.Laws.Plan.{plan-fits}
 use Rattle.powercut.specs.PowerCut.{updated, Completes}
 use Rattle.powercut.proofs.Laws.States.{rest}
-use Rattle.powercut.proofs.Laws.Region.{behind-region, settled-outside, complete}
+use Rattle.powercut.proofs.Laws.Region.{settled-outside, complete}
 use Rattle.powercut.proofs.Laws.PlanRun.{plan-ran}
-
-pub power-up-granted : (s : State) → Sound s → powerUp s ≡ granted (poweredUp s)
-unfolding powerUp
-power-up-granted s h = sym (answer-sound s (poweredUp s) (of-sound s h))
 
 module _ (given : State) (bp : ℕ) (wel armed : Bool) (wp : Bool) (array : List ℕ) (start : ℕ) (wanted : List ℕ) (room : ℕ) (bytes : Bytes array)
     (accepted : Accepted (rest given bp wel armed) wp array start wanted room) where
@@ -41,8 +35,8 @@ module _ (given : State) (bp : ℕ) (wel armed : Bool) (wp : Bool) (array : List
       record {
         array-is = complete array start wanted bytes now (ran .safe .near) (rw (accepted .region .sized) (accepted .region .fits)) (accepted .region .falls)
             (λ k l. ⊎-elim (λ i. ran .done k i l)
-            (λ i. settled-outside array start wanted bytes now (ran .safe .near) k l (behind-region start (length wanted) k i)) (split k (start + length wanted)));
+            (λ i. settled-outside array start wanted bytes now (ran .safe .near) k l (within-above start (length wanted) k i)) (split k (start + length wanted)));
         state-is = ran .ends;
-        frames-taken = λ before after f e. frame-among-taken wp before after f (device s array) (rw e at (plan-fits s array start wanted)) ready;
+        frames-accepted = λ before after f e. frame-accepted-among wp before after f (device s array) (rw e at (plan-fits s array start wanted)) ready;
         powers-up = λ before after e. rw (power-up-granted _ (run-ready wp before (device s array) ready .sound)) refl;
       }

@@ -7,17 +7,17 @@ use mathlib.Core.List.{List, [], _∷_}
 use Prim.Native.Nat.{ℕ, _-_, _*_, _/_, _<_}
 use native.Mathlib.Omega.{arith}
 use lib.ListN.{length, getD}
+use Rattle.common.specs.Refusals.{stateNotSound}
 use Rattle.common.specs.Lists.{mapi, within}
 use Rattle.common.proofs.Laws.Lists.{getD-mapi}
 use Rattle.state.specs.declared.State.{State}
-use Rattle.chip.specs.Chip.{isKnown, chipOf}
+use Rattle.chip.specs.Chip.{isKnown, chipOf, kindOf}
 use Rattle.state.specs.State.{dataOf, withAai}
 use Rattle.state.specs.Protection.{firstProtected}
 use Rattle.state.specs.Power.{atRest, newState, poweredUp}
 use Rattle.state.specs.Soundness.{isSound}
 use Rattle.state.specs.Time.{cycleEnded, timePassed}
 use Rattle.state.proofs.Laws.Soundness.{sound-of}
-use Rattle.chip.specs.Instructions.{kindOf}
 use Rattle.command.specs.Command.{address, writable, byKind, inAai, commandOf}
 use Rattle.registers.specs.Registers.{stateAfter}
 use Rattle.script.specs.Record.{Record, frame, wait}
@@ -36,7 +36,7 @@ use Rattle.plan.specs.Refusals.{planRefusal}
 use Rattle.powercut.specs.PowerCut.{Planner, updated, Partway, Completes, PowerCutSafe}
 use Rattle.powercut.proofs.Laws.Region.{updated-at}
 use Rattle.powercut.proofs.Laws.Samples.{fe, wordPlan}
-use Rattle.powercut.proofs.Laws.Trace.{stateBehind, byteBehind, traced}
+use Rattle.run.proofs.Laws.Trace.{stateBehind, byteBehind, traced}
 
 -- a byte of the updated array
 module _ (records : List Record) (wp : Bool) (chip : Device) (start : ℕ) (wanted : List ℕ) (c : Completes records wp chip (updated (chip .array) start wanted))
@@ -107,7 +107,7 @@ module _ (wp : Bool) where
   unfolding touches struck mixed within
   data-rises = rw (mask-place-start (Program 0x12344 2 4)) refl
 
-  aai-unsound : (array : List ℕ) (room : ℕ) → planRefusal (aaiKept (stateBehind wp begun (atRest 8 0 false false))) wp array 0x12345 fe room ≡ 1
+  aai-unsound : (array : List ℕ) (room : ℕ) → planRefusal (aaiKept (stateBehind wp begun (atRest 8 0 false false))) wp array 0x12345 fe room ≡ stateNotSound
   unfolding planRefusal isSound isKnown poweredUp newState chipOf firstProtected commandOf byKind kindOf stateAfter timePassed cycleEnded writable address
   aai-unsound array room = refl
 
@@ -158,7 +158,7 @@ module _ (wp : Bool) where
 
     -- power-up keeps AAI: planning again is refused, whatever the room
     pub aai-kept : (room : ℕ)
-        → planRefusal (aaiKept (run wp begun (device (atRest 8 0 false false) array) .state)) wp (run wp begun (device (atRest 8 0 false false) array) .array) 0x12345 fe room ≡ 1
+        → planRefusal (aaiKept (run wp begun (device (atRest 8 0 false false) array) .state)) wp (run wp begun (device (atRest 8 0 false false) array) .array) 0x12345 fe room ≡ stateNotSound
     unfolding isSound isKnown chipOf firstProtected
     aai-kept room =
         let is = traced wp begun (device (atRest 8 0 false false) array) (ready 0 refl) ((omega arith, omega arith), ((omega arith, omega arith), (omega arith, tt))) .state-is in

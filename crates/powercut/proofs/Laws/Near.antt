@@ -9,17 +9,18 @@ use Prim.Native.Nat.{ℕ, _+_, _-_, _<_}
 use native.Mathlib.Omega.{arith}
 use lib.Bits.{bitAnd}
 use lib.ListN.{length, getD, List·getD-eq-default}
+use Rattle.common.proofs.Laws.Bits.{and-again}
 use Rattle.common.specs.Lists.{mapi}
 use Rattle.common.proofs.Laws.Choice.{cases}
-use Rattle.common.proofs.Laws.Lists.{length-mapi, getD-mapi, mapi-id, split}
+use Rattle.common.proofs.Laws.Lists.{length-mapi, getD-mapi, split}
 use Rattle.effect.specs.declared.Effect.{Effect}
 use Rattle.effect.specs.declared.Effect.the-variants.{Keep, Program}
 use Rattle.effect.specs.Effect.{touches, struck, changed}
 use Rattle.effect.specs.Cut.{maskPlace, cut}
 use Rattle.common.specs.Bits.{Bytes}
-use Rattle.effect.proofs.Laws.Effect.{changed-touched, changed-other, cut-touched, cut-other}
-use Rattle.common.proofs.Laws.Places.{within-bounds}
-use Rattle.powercut.proofs.Laws.Between.{Between, and-again, between-start, between-lt, between-programmed, between-mixed, between-same}
+use Rattle.effect.proofs.Laws.Straight.{keep-untouched, program-struck}
+use Rattle.effect.proofs.Laws.Effect.{touched-in-span, changed-touched, changed-other, cut-touched, cut-other}
+use Rattle.powercut.proofs.Laws.Between.{Between, between-start, between-lt, between-programmed, between-mixed, between-same}
 
 -- by address: `w` the byte that is wanted
 pub record Near (before : List ℕ) (w : ℕ → ℕ) (array : List ℕ) : Type 0 where
@@ -31,20 +32,14 @@ abbrev pub Programs : (ℕ → ℕ) → Effect → List ℕ → Type 0
 Programs w e f = (k x : ℕ) → touches e k ≡ true → struck e f k x ≡ bitAnd x (w k)
 
 pub keep-programs : (w : ℕ → ℕ) (f : List ℕ) → Programs w Keep f
-unfolding touches
-keep-programs w f k x t = absurd (false≢true t)
+keep-programs w f k x t = absurd (false≢true (sym (keep-untouched k) ∙ t))
 
 -- n bytes from address a, sent from the frame's byte i on
 pub program-programs : (w : ℕ → ℕ) (f : List ℕ) (a n i : ℕ) → ((j : ℕ) → j < n → getD f (i + j) 0 ≡ w (a + j)) → Programs w (Program a n i) f
-unfolding touches struck
 program-programs w f a n i sent k x t =
-    let b = within-bounds a n k t in
+    let b = touched-in-span (Program a n i) k t in
     let e : a + (k - a) ≡ k = omega arith in
-    ap (bitAnd x) (sent (k - a) (omega arith) ∙ ap w e)
-
-pub keep-array : (f array : List ℕ) → mapi (changed Keep f) array ≡ array
-unfolding touches
-keep-array f array = mapi-id (changed Keep f) array (λ k h. changed-other Keep f k (getD array k 0) refl)
+    program-struck a n i k f x ∙ ap (bitAnd x) (sent (k - a) (omega arith) ∙ ap w e)
 
 -- a byte that has no bit left that is not wanted
 unfoldable pub Settled : (ℕ → ℕ) → List ℕ → ℕ → Type 0

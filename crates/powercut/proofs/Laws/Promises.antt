@@ -9,8 +9,8 @@ use lib.ListN.{length, getD}
 use Rattle.common.proofs.Laws.Choice.{cases}
 use Rattle.state.specs.declared.State.{State}
 use Rattle.state.specs.State.{withWel, withArmed}
-use Rattle.script.specs.Record.{Record, AllBytes}
-use Rattle.common.specs.Bits.{bitAt}
+use Rattle.script.specs.Record.{Record}
+use Rattle.common.specs.Bits.{Bytes, bitAt}
 use Rattle.run.specs.Run.{Device}
 use Rattle.common.specs.Lists.{within}
 use Rattle.plan.specs.Plan.{planRecords}
@@ -24,7 +24,7 @@ rested-by : (rs : List Record) (s : State) → (stateAfterPlan rs s ≡ s) ⊎ (
 rested-by [] s = inl refl
 rested-by (r ∷ rs) s = inr refl
 
-pub promises-kept : (s : State) (wp : Bool) (array : List ℕ) (start : ℕ) (wanted : List ℕ) (room : ℕ) → AllBytes array
+pub promises-kept : (s : State) (wp : Bool) (array : List ℕ) (start : ℕ) (wanted : List ℕ) (room : ℕ) → Bytes array
     → planRefusal s wp array start wanted room ≡ 0 → Promises s wp array start wanted room
 unfolding Finished PowerLost
 promises-kept s wp array start wanted room bytes e =

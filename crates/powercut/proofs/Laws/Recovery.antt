@@ -8,27 +8,30 @@ use Prim.Native.Nat.{ℕ, _+_, _≤_, _<_}
 use native.Mathlib.Omega.{arith}
 use lib.ListN.{length}
 use Rattle.common.proofs.Laws.Choice.{cases}
+use Rattle.common.proofs.Laws.Places.{within-bounds}
 use Rattle.state.specs.declared.State.{State}
-use Rattle.chip.specs.Chip.{chipOf}
 use Rattle.state.specs.State.{dataOf}
-use Rattle.state.specs.Power.{atRest, newState, poweredUp}
+use Rattle.state.specs.Power.{atRest, poweredUp}
 use Rattle.state.specs.Protection.{firstProtected}
-use Rattle.state.proofs.Laws.Power.{powered-up-sound}
+use Rattle.state.proofs.Laws.Power.{powered-up-sound, powered-up-keeps, powered-up-new}
+use Rattle.state.proofs.Laws.Protection.{first-by, open-at-0}
 use Rattle.state.proofs.Laws.Soundness.{of-sound}
 use Rattle.common.specs.Bits.{Bytes}
 use Rattle.run.specs.Run.{Device, device}
 use Rattle.region.specs.Region.{wantedAt, changes}
+use Rattle.region.proofs.Laws.Region.{change-in-region}
 use Rattle.plan.specs.Plan.{stepOneNeeded, planRecords}
 use Rattle.plan.specs.Refusals.{Accepted}
+use Rattle.plan.proofs.Laws.Steps.{not-needed-free, free-not-needed}
 use Rattle.plan.proofs.Laws.Refusals.{of-accepted}
 use Rattle.powercut.specs.PowerCut.{Recovers}
-use Rattle.powercut.proofs.Laws.States.{rest, first-by}
+use Rattle.powercut.proofs.Laws.States.{rest}
 use Rattle.powercut.proofs.Laws.Near.{near-bytes}
 use Rattle.powercut.proofs.Laws.Safe.{Task, Safe}
-use Rattle.powercut.proofs.Laws.Region.{region-bounds, change-in-region, partway, changes-fewer, falls-still, updated-same}
+use Rattle.powercut.proofs.Laws.Region.{partway, changes-fewer, falls-still, updated-same}
 use Rattle.powercut.proofs.Laws.Length.{plan-22-longer}
 use Rattle.powercut.proofs.Laws.Completes.{completes}
-use Rattle.powercut.proofs.Laws.PlanRun.{not-needed-free, free-not-needed, open-at-0, task}
+use Rattle.powercut.proofs.Laws.PlanRun.{task}
 
 -- what power-up leaves: a chip at rest, whose BPL is 0, or whose bits are those of the moment
 record Awake (s now : State) : Type 0 where
@@ -39,11 +42,10 @@ record Awake (s now : State) : Type 0 where
   lock : (bpl ≡ false) ⊎ ((bp ≡ s .bp) × (bpl ≡ s .bpl))
 
 awake : (s : State) → Awake s (poweredUp s)
-unfolding poweredUp newState
 awake s =
     cases (dataOf s .keeps)
-    (λ k. record { bp = s .bp; tb = s .tb; bpl = s .bpl; is = rw k refl; lock = inr (refl, refl) })
-    (λ k. record { bp = chipOf (s .chip) .«new_level»; tb = false; bpl = false; is = rw k refl; lock = inl refl })
+    (λ k. record { bp = s .bp; tb = s .tb; bpl = s .bpl; is = powered-up-keeps s k; lock = inr (refl, refl) })
+    (λ k. record { bp = dataOf s .«new_level»; tb = false; bpl = false; is = powered-up-new s k; lock = inl refl })
 
 -- of three, the last two don't hold together
 off : (a b c : Bool) → b && c ≡ false → a && b && c ≡ false
@@ -78,7 +80,7 @@ module _ (given : State) (bp : ℕ) (wel armed : Bool) (wp : Bool) (array : List
     free-again : (k : ℕ) → stepOneNeeded s array start wanted ≡ false → woken .bp ≡ d .state .bp → changes now start wanted k ≡ true → k < firstProtected again
     free-again k needed e c =
         ⊎-elim (λ h. rw (first-by again s (safe .held .same-chip) (e ∙ h)) (not-needed-free s array start wanted needed k (fewer k c)))
-        (λ h. let b = region-bounds start (length wanted) k (change-in-region now start wanted k c) in
+        (λ h. let b = within-bounds start (length wanted) k (change-in-region now start wanted k c) in
         rw (open-at-0 again (e ∙ h), safe .held .same-chip) (omega (arith, accepted .region .fits))) (safe .held .level-held)
 
     writable-again : stepOneNeeded again now start wanted && again .bpl && not wp ≡ false

@@ -1,96 +1,36 @@
 -- A region and an array on its way there: what changes changed before, nothing outside moves, no wanted bit is lost, and where all is settled the update is complete.
 -- Assumes nothing.
 use mathlib.Core.Path.{_≡_, refl, sym, ap, _∙_}
-use mathlib.Core.Bool.{Bool, true, false, cond, _&&_, false≢true}
+use mathlib.Core.Bool.{true, false, cond}
 use mathlib.Core.List.{List}
 use mathlib.Core.Logic.{⊎-elim}
 use Prim.Native.Nat.{ℕ, _+_, _-_, _≤_, _<_}
 use native.Mathlib.Omega.{arith}
 use lib.Bits.{bitAnd, and-self}
-use lib.Dec.{eqb}
 use lib.ListN.{length, getD, List·getD-eq-default}
 use lib.Seq.{ext-getD}
-use borrow.Author.Tests.{eqb-true, eqb-false, not-true, not-false}
-use Rattle.common.proofs.Laws.Booleans.{and-l, and-r}
 use Rattle.common.proofs.Laws.Choice.{cases}
 use Rattle.common.proofs.Laws.Lists.{split, length-mapi, getD-mapi}
 use Rattle.common.specs.Bits.{Bytes}
 use Rattle.common.proofs.Laws.Bits.{and-full}
-use Rattle.common.proofs.Laws.Places.{within-bounds, within-below, within-above}
+use Rattle.common.proofs.Laws.Places.{within-bounds}
 use Rattle.region.specs.Region.{wantedAt, changes, rises, anyOf}
 use Rattle.common.specs.Lists.{within}
-use Rattle.region.proofs.Laws.Region.{any-false, any-none}
+use Rattle.region.proofs.Laws.Region.{wanted-in, wanted-out, change-in-region, change-differs, no-change-outside, no-change-as-wanted, rises-same, any-false, any-none, nothing-rises}
 use Rattle.powercut.specs.PowerCut.{updated, Partway}
 use Rattle.powercut.proofs.Laws.Between.{between-bit}
 use Rattle.powercut.proofs.Laws.Near.{Near, Settled, settled-start, settled-same, settled-value}
 
--- ---- an address and the region
+-- ---- the array once the update is done
 
-pub region-bounds : (start n k : ℕ) → within start n k ≡ true → (start ≤ k) × (k < start + n)
-unfolding within
-region-bounds start n k e = within-bounds start n k e
+pub updated-at : (array : List ℕ) (start : ℕ) (wanted : List ℕ) (k : ℕ) → k < length array
+    → getD (updated array start wanted) k 0 ≡ cond (within start (length wanted) k) (getD wanted (k - start) 0) (getD array k 0)
+unfolding updated
+updated-at array start wanted k h = getD-mapi _ array k 0 h
 
-pub before-region : (start n k : ℕ) → k < start → within start n k ≡ false
-unfolding within
-before-region start n k h = within-below start n k h
-
-pub behind-region : (start n k : ℕ) → start + n ≤ k → within start n k ≡ false
-unfolding within
-behind-region start n k h = within-above start n k h
-
--- an "and" that does not hold
-pub and-off : (a b : Bool) → a && b ≡ false → a ≡ true → b ≡ false
-and-off true b e h = e
-and-off false b e h = absurd (false≢true h)
-
-and-none : (a b : Bool) → a ≡ false → a && b ≡ false
-and-none a b h = rw h refl
-
-module _ (start : ℕ) (wanted : List ℕ) (k : ℕ) where
-  wanted-in : within start (length wanted) k ≡ true → wantedAt start wanted k ≡ getD wanted (k - start) 0
-  unfolding wantedAt
-  wanted-in e = rw e refl
-
-  wanted-out : within start (length wanted) k ≡ false → wantedAt start wanted k ≡ 255
-  unfolding wantedAt
-  wanted-out e = rw e refl
-
-module _ (array : List ℕ) (start : ℕ) (wanted : List ℕ) (k : ℕ) where
-  pub change-in-region : changes array start wanted k ≡ true → within start (length wanted) k ≡ true
-  unfolding changes
-  change-in-region e = and-l (within start (length wanted) k) _ e
-
-  pub change-differs : changes array start wanted k ≡ true → getD array k 0 ≡ wantedAt start wanted k → ⊥
-  unfolding changes
-  change-differs e q =
-      eqb-false (getD array k 0) (wantedAt start wanted k)
-      (not-true (eqb (getD array k 0) (wantedAt start wanted k)) (and-r (within start (length wanted) k) _ e)) q
-
-  pub no-change-outside : within start (length wanted) k ≡ false → changes array start wanted k ≡ false
-  unfolding changes
-  no-change-outside e = and-none (within start (length wanted) k) _ e
-
-  pub no-change-as-wanted : within start (length wanted) k ≡ true → changes array start wanted k ≡ false → getD array k 0 ≡ wantedAt start wanted k
-  unfolding changes
-  no-change-as-wanted i e =
-      eqb-true (getD array k 0) (wantedAt start wanted k)
-      (not-false (eqb (getD array k 0) (wantedAt start wanted k)) (and-off (within start (length wanted) k) _ e i))
-
-  pub updated-at : k < length array → getD (updated array start wanted) k 0 ≡ cond (within start (length wanted) k) (getD wanted (k - start) 0) (getD array k 0)
-  unfolding updated
-  updated-at h = getD-mapi _ array k 0 h
-
-pub updated-length : (array : List ℕ) (start : ℕ) (wanted : List ℕ) → length (updated array start wanted) ≡ length array
+updated-length : (array : List ℕ) (start : ℕ) (wanted : List ℕ) → length (updated array start wanted) ≡ length array
 unfolding updated
 updated-length array start wanted = length-mapi _ array
-
--- "a wanted 1 where the array has 0": there is none
-pub nothing-rises : (array : List ℕ) (start : ℕ) (wanted : List ℕ) → anyOf (rises array start wanted) (length wanted) start ≡ false
-    → (k : ℕ) → within start (length wanted) k ≡ true → bitAnd (getD array k 0) (wantedAt start wanted k) ≡ wantedAt start wanted k
-unfolding rises
-nothing-rises array start wanted e k i =
-    let b = region-bounds start (length wanted) k i in
-    eqb-true _ _ (not-false (eqb (bitAnd (getD array k 0) (wantedAt start wanted k)) (wantedAt start wanted k)) (any-false (rises array start wanted) (length wanted) start k e (b .0) (b .1)))
 
 -- ---- an array on its way
 
@@ -111,14 +51,14 @@ module _ (array : List ℕ) (start : ℕ) (wanted : List ℕ) (bytes : Bytes arr
     settled-outside k l e = settled-start array w now near k l (calm k (no-change-outside array start wanted k e) l)
 
     -- nothing outside moves
-    pub same-outside : (k : ℕ) → within start (length wanted) k ≡ false → getD now k 0 ≡ getD array k 0
+    same-outside : (k : ℕ) → within start (length wanted) k ≡ false → getD now k 0 ≡ getD array k 0
     same-outside k e =
         ⊎-elim (λ l. settled-same array w now near k l (calm k (no-change-outside array start wanted k e) l))
         (λ l. List·getD-eq-default now 0 {n = k} (rw (near .same-length) l) ∙ sym (List·getD-eq-default array 0 {n = k} l)) (split k (length array))
 
     module _ (fits : start + length wanted ≤ length array) where
       in-array : (k : ℕ) → within start (length wanted) k ≡ true → k < length array
-      in-array k i = let b = region-bounds start (length wanted) k i in omega arith
+      in-array k i = let b = within-bounds start (length wanted) k i in omega arith
 
       pub partway : Partway array start wanted now
       partway = record {
@@ -138,10 +78,9 @@ module _ (array : List ℕ) (start : ℕ) (wanted : List ℕ) (bytes : Bytes arr
       module _ (falls : anyOf (rises array start wanted) (length wanted) start ≡ false) where
         -- no wanted bit has been lost
         pub falls-still : anyOf (rises now start wanted) (length wanted) start ≡ false
-        unfolding rises
         falls-still =
             any-none (rises now start wanted) (length wanted) start
-            (λ k h l. rw (near .each k (omega arith) .over) (any-false (rises array start wanted) (length wanted) start k falls h l))
+            (λ k h l. rises-same now array start wanted k (near .each k (omega arith) .over) ∙ any-false (rises array start wanted) (length wanted) start k falls h l)
 
         -- all is settled: the update is complete
         pub complete : ((k : ℕ) → k < length array → Settled w now k) → now ≡ updated array start wanted

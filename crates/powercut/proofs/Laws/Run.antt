@@ -15,23 +15,16 @@ use Rattle.command.specs.Command.{commandOf}
 use Rattle.registers.specs.Registers.{stateAfter}
 use Rattle.registers.proofs.Laws.Kept.{command-sound}
 use Rattle.script.specs.Record.{Record, frame, wait, AllFit}
+use Rattle.script.proofs.Laws.Records.{all-fit-left, all-fit-right}
 use Rattle.effect.specs.declared.Effect.the-variants.{Keep}
 use Rattle.effect.specs.Effect.{changed}
 use Rattle.frame.specs.Effect.{effectOf}
 use Rattle.run.specs.Run.{Device, device, step, run}
-use Rattle.run.proofs.Laws.Run.{run-append}
-use Rattle.powercut.proofs.Laws.Near.{Near, Programs, Settled, keep-programs, keep-array, near-cut}
+use Rattle.run.proofs.Laws.Run.{run-none, run-first, run-append}
+use Rattle.powercut.proofs.Laws.Near.{Near, Programs, Settled, keep-programs, near-cut}
+use Rattle.effect.proofs.Laws.Straight.{keep-array}
 use Rattle.powercut.proofs.Laws.Safe.{Task, HeldBy, Safe, Inside, Always, always-append, always-now, safe-accepted}
-use Rattle.powercut.proofs.Laws.Trace.{step-frame, step-wait}
-
--- of two lists of records, each fits
-fit-left : (rs ss : List Record) → AllFit (rs ++ ss) → AllFit rs
-fit-left [] ss a = tt
-fit-left (r ∷ rs) ss a = (a .0, fit-left rs ss (a .1))
-
-fit-right : (rs ss : List Record) → AllFit (rs ++ ss) → AllFit ss
-fit-right [] ss a = a
-fit-right (r ∷ rs) ss a = fit-right rs ss (a .1)
+use Rattle.run.proofs.Laws.Trace.{step-frame, step-wait}
 
 module _ (t : Task) where
   -- all below an address is settled
@@ -54,17 +47,18 @@ module _ (t : Task) where
   OnItsWay array = Near (t .array) (t .want) array
 
   pub ran-nil : {s : State} {array : List ℕ} (z : ℕ) → HeldBy (t .state) s → OnItsWay array → Done z array → Runs s z [] s array
-  unfolding run
-  ran-nil z held near done sound fits =
-      let safe : Safe t (device _ _) = record { sound = sound; held = held; near = near } in
-      record { always = safe; safe = safe; ends = refl; done = done }
+  ran-nil {s} {array} z held near done sound fits =
+      let d : Device = device s array in
+      let safe : Safe t d = record { sound = sound; held = held; near = near } in
+      let none : run (t .level) [] d ≡ d = run-none (t .level) d in
+      record { always = safe; safe = rw none safe; ends = rw none refl; done = rw none done }
 
   module _ {end : State} {z : ℕ} where
     ran-cons : (r : Record) (rs : List Record) (d e : Device) → step (t .level) r d ≡ e → Safe t d → Inside t r d → Ran end z rs e → Ran end z (r ∷ rs) d
-    unfolding run
     ran-cons r rs d e law safe inside h =
         let q : Ran end z rs (step (t .level) r d) = rw law h in
-        record { always = (safe, (inside, q .always)); safe = q .safe; ends = q .ends; done = q .done }
+        let first : run (t .level) (r ∷ rs) d ≡ run (t .level) rs (step (t .level) r d) = run-first (t .level) r rs d in
+        record { always = (safe, (inside, q .always)); safe = rw first (q .safe); ends = rw first (q .ends); done = rw first (q .done) }
 
     -- a frame, by the command that it is
     pub ran-frame : (c : Command) {f : List ℕ} {s : State} {array : List ℕ} {rs : List Record} → commandOf s (t .level) f ≡ c → Programs (t .want) (effectOf c) f
@@ -96,11 +90,11 @@ module _ (t : Task) where
       → ((now : List ℕ) → OnItsWay now → Done y now → Runs end z ss middle now) → Runs end z (rs ++ ss) s array
   ran-append {middle} {end} {y} {z} {rs} {ss} {s} {array} first then sound fits =
       let d : Device = device s array in
-      let r = first sound (fit-left rs ss fits) in
+      let r = first sound (all-fit-left rs ss fits) in
       let e : Device = run (t .level) rs d in
       let q : Ran end z ss (device (e .state) (e .array)) =
       subst (λ (x : State). Ran end z ss (device x (e .array))) (sym (r .ends))
-      (then (e .array) (r .safe .near) (r .done) (subst Sound (r .ends) (r .safe .sound)) (fit-right rs ss fits)) in
+      (then (e .array) (r .safe .near) (r .done) (subst Sound (r .ends) (r .safe .sound)) (all-fit-right rs ss fits)) in
       record {
         always = always-append t rs ss d (r .always) (q .always);
         safe = rw (run-append (t .level) rs ss d) (q .safe);

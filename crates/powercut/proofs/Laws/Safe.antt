@@ -17,6 +17,7 @@ use Rattle.frame.specs.Call.{effectAt, stateAt}
 use Rattle.frame.proofs.Laws.Accepted.{Accepted}
 use Rattle.common.specs.Bits.{Bytes}
 use Rattle.run.specs.Run.{Device, device, step, run}
+use Rattle.run.proofs.Laws.Run.{run-none, run-first}
 use Rattle.powercut.proofs.Laws.Near.{Near}
 
 -- a chip as it was given, the level, and the byte that is wanted at each address
@@ -60,9 +61,9 @@ module _ (t : Task) where
   Always (r ∷ rs) d = Safe d × (Inside r d × Always rs (step (t .level) r d))
 
   pub always-append : (rs ss : List Record) (d : Device) → Always rs d → Always ss (run (t .level) rs d) → Always (rs ++ ss) d
-  unfolding run
-  always-append [] ss d h k = k
-  always-append (r ∷ rs) ss d h k = (h .0, (h .1 .0, always-append rs ss (step (t .level) r d) (h .1 .1) k))
+  always-append [] ss d h k = rw (run-none (t .level) d) at k
+  always-append (r ∷ rs) ss d h k =
+      (h .0, (h .1 .0, always-append rs ss (step (t .level) r d) (h .1 .1) (rw (run-first (t .level) r rs d) at k)))
 
   pub always-now : (rs : List Record) (d : Device) → Always rs d → Safe d
   always-now [] d h = h
@@ -70,14 +71,12 @@ module _ (t : Task) where
 
   -- a cut between two records, and one inside a frame
   pub always-between : (rs ss : List Record) (d : Device) → Always (rs ++ ss) d → Safe (run (t .level) rs d)
-  unfolding run
-  always-between [] ss d h = always-now ss d h
-  always-between (r ∷ rs) ss d h = always-between rs ss (step (t .level) r d) (h .1 .1)
+  always-between [] ss d h = rw (run-none (t .level) d) (always-now ss d h)
+  always-between (r ∷ rs) ss d h = rw (run-first (t .level) r rs d) (always-between rs ss (step (t .level) r d) (h .1 .1))
 
   pub always-inside : (rs ss : List Record) (f : List ℕ) (d : Device) → Always (rs ++ (frame f ∷ ss)) d → Inside (frame f) (run (t .level) rs d)
-  unfolding run
-  always-inside [] ss f d h = h .1 .0
-  always-inside (r ∷ rs) ss f d h = always-inside rs ss f (step (t .level) r d) (h .1 .1)
+  always-inside [] ss f d h = rw (run-none (t .level) d) (h .1 .0)
+  always-inside (r ∷ rs) ss f d h = rw (run-first (t .level) r rs d) (always-inside rs ss f (step (t .level) r d) (h .1 .1))
 
   -- a frame's call is accepted wherever a cut may come
   pub safe-accepted : (d : Device) (f : List ℕ) → Safe d → Fits (frame f) → Accepted (d .state) (length (d .array)) (length f) (length f)

@@ -30,18 +30,13 @@ busy s bp = withLeft (rest s bp true false) 1500
 
 -- neither busy nor in AAI nor in power-down: the state is its own rest
 pub is-rest : (s : State) → Sound s → s .left ≡ 0 → s .aai ≡ false → s .«power_down» ≡ false → s ≡ rest s (s .bp) (s .wel) (s .armed)
-is-rest s h l a d = ap (withLeft s) l ∙ ap (withPowerDown (withLeft s 0)) d ∙ ap₂ (withAai (withPowerDown (withLeft s 0) false)) a (h .rests a)
+is-rest s h l a d = ap (withLeft s) l ∙ ap (withPowerDown (withLeft s 0)) d ∙ ap₂ (withAai (withPowerDown (withLeft s 0) false)) a (h .next-0-without-aai a)
 
 -- ---- protection
 
 -- the first protected address at a level
 abbrev pub border : State → ℕ → ℕ
 border s bp = firstProtected (rest s bp false false)
-
--- it goes by the chip and the level alone
-pub first-by : (x y : State) → x .chip ≡ y .chip → x .bp ≡ y .bp → firstProtected x ≡ firstProtected y
-unfolding firstProtected
-first-by x y e f = rw (e, f) refl
 
 -- ---- behind a part of a plan: WEL and armed fall with the first record, and nothing more does
 

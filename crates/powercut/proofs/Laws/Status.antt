@@ -4,7 +4,7 @@ use mathlib.Core.Path.{_≡_, refl, ap, _∙_}
 use mathlib.Core.Bool.{Bool, true, false, _&&_, _||_, not}
 use mathlib.Core.List.{List, [], _∷_}
 use mathlib.Core.Logic.{_⊎_}
-use Prim.Native.Nat.{ℕ, _+_, _*_, _/_, _%_, _≤_}
+use Prim.Native.Nat.{ℕ, _/_, _%_, _≤_}
 use native.Mathlib.Omega.{arith}
 use lib.Dec.{eqb}
 use Rattle.common.proofs.Laws.Choice.{cases}
@@ -13,8 +13,10 @@ use Rattle.state.specs.State.{dataOf}
 use Rattle.common.specs.Bits.{bit}
 use Rattle.command.specs.declared.Command.the-variants.{WriteEnable, Arm, WriteStatus}
 use Rattle.registers.specs.Registers.{has, stateAfter}
+use Rattle.registers.proofs.Laws.After.{after-arm, after-write-enable, after-write-status}
 use Rattle.script.specs.Record.{frame}
 use Rattle.common.proofs.Laws.Flags.{bit-le}
+use Rattle.plan.proofs.Laws.Steps.{status-records, status-byte-digits}
 use Rattle.plan.specs.Plan.{statusByte, statusRecords}
 use Rattle.powercut.proofs.Laws.States.{rest}
 use Rattle.powercut.proofs.Laws.Safe.{Task, Held}
@@ -22,13 +24,6 @@ use Rattle.powercut.proofs.Laws.Run.{Done, Runs, OnItsWay, ran-nil, ran
 use Rattle.powercut.proofs.Laws.Frames.{write-enable, arm, write-status}
 
 -- ---- the byte
-
-digits : (bp : ℕ) (tb bpl : Bool) → statusByte bp tb bpl ≡ bp * 4 + bit tb 1 * 32 + bit bpl 1 * 128
-unfolding statusByte
-digits bp true true = refl
-digits bp true false = refl
-digits bp false true = refl
-digits bp false false = refl
 
 flag : (b : Bool) → eqb (bit b 1) 1 ≡ b
 flag true = refl
@@ -39,13 +34,13 @@ module _ (bp : ℕ) (tb bpl : Bool) (low : bp ≤ 7) where
   byte = statusByte bp tb bpl
 
   level-back : byte / 4 % 8 ≡ bp
-  level-back = omega (arith, digits bp tb bpl, bit-le tb 1, bit-le bpl 1)
+  level-back = omega (arith, status-byte-digits bp tb bpl, bit-le tb 1, bit-le bpl 1)
 
   tb-back : has byte 32 ≡ tb
-  tb-back = let e : byte / 32 % 2 ≡ bit tb 1 = omega (arith, digits bp tb bpl, bit-le tb 1, bit-le bpl 1) in ap (λ (n : ℕ). eqb n 1) e ∙ flag tb
+  tb-back = let e : byte / 32 % 2 ≡ bit tb 1 = omega (arith, status-byte-digits bp tb bpl, bit-le tb 1, bit-le bpl 1) in ap (λ (n : ℕ). eqb n 1) e ∙ flag tb
 
   bpl-back : has byte 128 ≡ bpl
-  bpl-back = let e : byte / 128 % 2 ≡ bit bpl 1 = omega (arith, digits bp tb bpl, bit-le tb 1, bit-le bpl 1) in ap (λ (n : ℕ). eqb n 1) e ∙ flag bpl
+  bpl-back = let e : byte / 128 % 2 ≡ bit bpl 1 = omega (arith, status-byte-digits bp tb bpl, bit-le tb 1, bit-le bpl 1) in ap (λ (n : ℕ). eqb n 1) e ∙ flag bpl
 
 -- TB is written on a chip that has it
 has-tb : (t tb : Bool) → (tb ≡ true → t ≡ true) → t && tb ≡ tb
@@ -53,11 +48,11 @@ has-tb true tb h = refl
 has-tb false true h = h refl
 has-tb false false h = refl
 
-pub status-written : (s : State) (bp to : ℕ) (wel : Bool) → to ≤ 7 → (s .tb ≡ true → dataOf s .«top_bottom» ≡ true)
+status-written : (s : State) (bp to : ℕ) (wel : Bool) → to ≤ 7 → (s .tb ≡ true → dataOf s .«top_bottom» ≡ true)
     → stateAfter (rest s bp wel true) (WriteStatus (statusByte to (s .tb) (s .bpl))) ≡ rest s to false false
-unfolding stateAfter
 status-written s bp to wel low topped =
-    rw (level-back to (s .tb) (s .bpl) low, tb-back to (s .tb) (s .bpl) low, bpl-back to (s .tb) (s .bpl) low, has-tb (dataOf s .«top_bottom») (s .tb) topped) refl
+    after-write-status (rest s bp wel true) (statusByte to (s .tb) (s .bpl))
+    ∙ rw (level-back to (s .tb) (s .bpl) low, tb-back to (s .tb) (s .bpl) low, bpl-back to (s .tb) (s .bpl) low, has-tb (dataOf s .«top_bottom») (s .tb) topped) refl
 
 -- ---- the two frames
 
@@ -78,8 +73,11 @@ module _ (t : Task) (topped : t .state .tb ≡ true → dataOf (t .state) .«top
         (rw (status-written s bp to wel low topped) (ran-nil t z (held-at s to held-to) near done))
 
     pub status-ran : (wel armed : Bool) → Runs t (rest s to false false) z (statusRecords s to) (rest s bp wel armed) array
-    unfolding statusRecords stateAfter
     status-ran wel armed =
-        cases (dataOf s .ewsr)
-        (λ e. rw e (ran-quiet t Arm (arm (t .level) s bp wel armed e) refl (held-at s bp held) near (second wel)))
-        (λ e. rw e (ran-quiet t WriteEnable (write-enable (t .level) s bp wel armed) refl (held-at s bp held) near (second true)))
+        rw (status-records s to)
+        (cases (dataOf s .ewsr)
+        (λ e. rw e
+        (ran-quiet t Arm (arm (t .level) s bp wel armed e) refl (held-at s bp held) near (rw (after-arm (rest s bp wel armed)) (second wel))))
+        (λ e. rw e
+        (ran-quiet t WriteEnable (write-enable (t .level) s bp wel armed) refl (held-at s bp held) near
+        (rw (after-write-enable (rest s bp wel armed)) (second true)))))

@@ -7,6 +7,8 @@ use mathlib.Core.List.{List, []}
 use Prim.Native.Nat.{ℕ, _+_, _<_}
 use native.Mathlib.Omega.{arith}
 use lib.ListN.{length, getD}
+use Rattle.common.specs.Refusals.{bufferTooShort}
+use Rattle.common.specs.Bits.{Bytes}
 use Rattle.common.specs.Lists.{tab, within}
 use Rattle.common.proofs.Laws.Lists.{length-tab, getD-tab}
 use Rattle.state.specs.declared.State.{State}
@@ -14,8 +16,8 @@ use Rattle.chip.specs.Chip.{isKnown, chipOf}
 use Rattle.state.specs.Protection.{firstProtected}
 use Rattle.state.specs.Power.{atRest, newState, stateRefusal, poweredUp, powerUp}
 use Rattle.state.specs.Soundness.{isSound}
-use Rattle.script.specs.Record.{AllBytes, encodeRecord, encode}
-use Rattle.script.proofs.Laws.Records.{all-bytes}
+use Rattle.script.specs.Record.{encodeRecord, encode}
+use Rattle.common.proofs.Laws.Bits.{bytes-within}
 use Rattle.run.specs.Run.{Device, device, run}
 use Rattle.region.specs.Region.{wantedAt, changes, rises, anyOf}
 use Rattle.plan.specs.Plan.{stepOneNeeded, planRecords}
@@ -28,7 +30,7 @@ use Rattle.powercut.proofs.Laws.Samples
 -- accepted with a byte more room, and not with so much
 pub record Just (s : State) (wp : Bool) (array : List ℕ) (start : ℕ) (wanted : List ℕ) (room : ℕ) : Type 0 where
   pub enough : planRefusal s wp array start wanted (room + 1) ≡ 0
-  pub too-little : planRefusal s wp array start wanted room ≡ 10
+  pub too-little : planRefusal s wp array start wanted room ≡ bufferTooShort
 
 -- ---- the F25L008A
 
@@ -70,8 +72,8 @@ pub erased-at : (n k : ℕ) → k < n → getD (erased n) k 0 ≡ 0xff
 unfolding erased
 erased-at n k h = getD-tab n (λ k. 0xff) k 0 h
 
-pub erased-bytes : (n : ℕ) → AllBytes (erased n)
-erased-bytes n = all-bytes (erased n) (λ k h. rw (erased-at n k (rw (erased-length n) at h)) (omega arith))
+pub erased-bytes : (n : ℕ) → Bytes (erased n)
+erased-bytes n = bytes-within (erased n) (λ k h. rw (erased-at n k (rw (erased-length n) at h)) (omega arith))
 
 pub safe-008a : PowerCutSafe planRecords (atRest 8 0 false false) true (erased 1048576) 0x12345 fe 26
 safe-008a =
@@ -89,7 +91,7 @@ safe-05pa =
 pub record TooFew (s : State) (wp : Bool) (array : List ℕ) (start : ℕ) (wanted : List ℕ) (room : ℕ) : Type 0 where
   pub chip : Device
   pub cut : CutShort (planRecords s array start wanted) wp (device s array) chip
-  pub refused : planRefusal (chip .state) wp (chip .array) start wanted room ≡ 10
+  pub refused : planRefusal (chip .state) wp (chip .array) start wanted room ≡ bufferTooShort
 
 -- the F25L008A without protection, its power cut before the first record: BP is 111 then, and 48 bytes are needed in place of 26
 pub twenty-one-too-few : (wp : Bool) (array : List ℕ) → length array ≡ 1048576 → getD array 0x12345 0 ≡ 0xff

@@ -1,4 +1,4 @@
--- Step 2 of a plan runs: words in runs, on a chip with AAI. Wherever it is cut, the array is on its way.
+-- Step 2 of a plan runs: words in runs, on a chip whose plans go by words. Wherever it is cut, the array is on its way.
 -- Assumes nothing.
 use mathlib.Core.Path.{_≡_, refl, ap, _∙_}
 use mathlib.Core.Bool.{Bool, true, false}
@@ -18,15 +18,16 @@ use Rattle.state.specs.declared.State.{State}
 use Rattle.state.specs.State.{dataOf}
 use Rattle.state.proofs.Laws.Protection.{first-border}
 use Rattle.command.specs.declared.Command.the-variants.{WriteEnable, WriteDisable, ProgramWord}
-use Rattle.registers.specs.Registers.{stateAfter}
+use Rattle.registers.proofs.Laws.After.{after-write-enable, after-write-disable, after-program-word}
 use Rattle.script.specs.Record.{Record, wait}
+use Rattle.effect.proofs.Laws.Straight.{program-touches}
 use Rattle.effect.specs.declared.Effect.the-variants.{Program}
-use Rattle.effect.specs.Effect.{touches, changed}
-use Rattle.common.proofs.Laws.Places.{within-yes}
+use Rattle.effect.specs.Effect.{changed}
 use Rattle.common.specs.Numbers.{addressBytes}
 use Rattle.words.specs.Words.{wordBytes, wordChanges, wordsStep}
-use Rattle.words.specs.Walk.{wordRecords, words}
+use Rattle.words.specs.Walk.{words}
 use Rattle.words.proofs.Laws.Runs.{words-are-runs}
+use Rattle.words.proofs.Laws.Words.{words-ended, words-closed, word-begins, word-goes-on, word-ends, word-skipped}
 use Rattle.powercut.specs.PowerCut.{stateAfterPlan}
 use Rattle.powercut.proofs.Laws.States.{rest, running, border, quiet-stays}
 use Rattle.powercut.proofs.Laws.Near.{Programs, Settled, program-programs, near-changed, settled-touched, settled-changed, settled-start}
@@ -73,12 +74,15 @@ module _ (t : Task) (d : ℕ → Bool) (bp : ℕ) (held : HeldBy (t .state) (res
 
   -- behind the last word
   words-end : WordsRun 0
-  unfolding words wordRecords stateAfter
-  words-end q a now array z h e (outside wel armed) near done = stop a z wel armed array (omega arith) near done
+  words-end q a now array z h e (outside wel armed) near done = rw (words-ended w d a) (stop a z wel armed array (omega arith) near done)
   words-end q a now array z h e (inside l) near done =
-      ran-quiet t WriteDisable (run-closed (t .level) s bp a) refl held near (stop a z false false array (omega arith) near done)
+      rw (words-closed w d a)
+      (ran-quiet t WriteDisable (run-closed (t .level) s bp a) refl held near
+      (rw (after-write-disable (running s bp 0 a)) (stop a z false false array (omega arith) near done)))
   words-end q a now array z h e (ended l) near done =
-      ran-quiet t WriteDisable (write-disable (t .level) s bp false false) refl held near (stop a z false false array (omega arith) near done)
+      rw (words-closed w d a)
+      (ran-quiet t WriteDisable (write-disable (t .level) s bp false false) refl held near
+      (rw (after-write-disable (rest s bp false false)) (stop a z false false array (omega arith) near done)))
 
   -- a word that does not change is settled as it stands
   skipped : (a : ℕ) (array : List ℕ) → wordChanges d a ≡ false → OnItsWay t array → Done t a array → Done t (a + 2) array
@@ -101,10 +105,9 @@ module _ (t : Task) (d : ℕ → Bool) (bp : ℕ) (held : HeldBy (t .state) (res
     after = mapi (changed (Program a 2 i) f) array
 
     written : OnItsWay t array → Done t a array → Done t (a + 2) after
-    unfolding touches
     written near done k h l =
         ⊎-elim (λ b. settled-changed (t .array) w array near (Program a 2 i) f programs k l (done k b l))
-        (λ b. settled-touched (t .array) w array near (Program a 2 i) f programs k l (within-yes a 2 k b h)) (split k a)
+        (λ b. settled-touched (t .array) w array near (Program a 2 i) f programs k l (program-touches a 2 i k b h)) (split k a)
 
     word-waited : (z : ℕ) → z ≤ a + suc n * 2 → a % 2 ≡ 0 → OnItsWay t array → Done t a array
         → Runs t (rest s bp false false) z (wait 7 ∷ words w d true n (a + 2)) (running s bp 7 (a + 2)) after
@@ -126,27 +129,29 @@ module _ (t : Task) (d : ℕ → Bool) (bp : ℕ) (held : HeldBy (t .state) (res
       (then false (a + 2) (rest s bp false false) array z (omega arith) (omega arith) (outside false false) near (skipped a array c near done))
 
   words-more : (n : ℕ) → WordsRun n → WordsRun (suc n)
-  unfolding words wordRecords stateAfter
   words-more n then q a now array z h e (outside wel armed) near done =
       cases (wordChanges d a)
       (λ c. let l = word-free a e c in
-      let low : a < dataOf s .size = omega (arith, first-border (rest s bp false false) .in-size) in
       let programs = word-programs w a 4 (0xad ∷ (addressBytes a ++ wordBytes w a)) refl refl in
-      rw c
+      rw (word-begins w d a n c)
       (ran-quiet t WriteEnable (write-enable (t .level) s bp wel armed) refl held near
-      (ran-frame t (ProgramWord a 4) (word-first (t .level) s bp true a (w a) (w (a + 1)) has-words low e l) programs held near
-      (word-waited n a 4 (0xad ∷ (addressBytes a ++ wordBytes w a)) array programs then z h e near done))))
-      (λ c. rw c (then false (a + 2) now array z (omega arith) (omega arith) (outside wel armed) near (skipped a array c near done)))
+      (rw (after-write-enable (rest s bp wel armed))
+      (ran-frame t (ProgramWord a 4) (word-first (t .level) s bp true a (w a) (w (a + 1)) has-words e l) programs held near
+      (rw (after-program-word (rest s bp true true) a 4)
+      (word-waited n a 4 (0xad ∷ (addressBytes a ++ wordBytes w a)) array programs then z h e near done))))))
+      (λ c. rw (word-skipped w d a n c) (then false (a + 2) now array z (omega arith) (omega arith) (outside wel armed) near (skipped a array c near done)))
   words-more n then q a now array z h e (inside l) near done =
       cases (wordChanges d a)
       (λ c. let programs = word-programs w a 1 (0xad ∷ wordBytes w a) refl refl in
-      rw c
+      rw (word-goes-on w d a n c)
       (ran-frame t (ProgramWord a 1) (word-further (t .level) s bp a (w a) (w (a + 1)) (word-free a e c)) programs held near
-      (word-waited n a 1 (0xad ∷ wordBytes w a) array programs then z h e near done)))
-      (λ c. rw c (ran-quiet t WriteDisable (run-closed (t .level) s bp a) refl held near (closed n a array z then h e c near done)))
+      (rw (after-program-word (running s bp 0 a) a 1) (word-waited n a 1 (0xad ∷ wordBytes w a) array programs then z h e near done))))
+      (λ c. rw (word-ends w d a n c) (ran-quiet t WriteDisable (run-closed (t .level) s bp a) refl held near
+      (rw (after-write-disable (running s bp 0 a)) (closed n a array z then h e c near done))))
   words-more n then q a now array z h e (ended l) near done =
       cases (wordChanges d a) (λ c. absurd (omega (arith, word-free a e c)))
-      (λ c. rw c (ran-quiet t WriteDisable (write-disable (t .level) s bp false false) refl held near (closed n a array z then h e c near done)))
+      (λ c. rw (word-ends w d a n c) (ran-quiet t WriteDisable (write-disable (t .level) s bp false false) refl held near
+      (rw (after-write-disable (rest s bp false false)) (closed n a array z then h e c near done))))
 
   all-words : (n : ℕ) → WordsRun n
   all-words zero = words-end

@@ -1,4 +1,4 @@
--- The laws of a region: `wantedAt`, `changes` and `rises` before it, behind it and inside, and `anyOf` one address at a time.
+-- The laws of a region: `wantedAt`, `changes` and `rises` inside it and outside, at its i-th byte, and `anyOf` one address at a time.
 -- Assumes nothing.
 use mathlib.Core.Path.{_≡_, refl, sym, ap, _∙_}
 use mathlib.Core.Bool.{Bool, true, false, not}
@@ -8,65 +8,79 @@ use native.Mathlib.Omega.{arith}
 use lib.Bits.{bitAnd}
 use lib.Dec.{eqb}
 use lib.ListN.{length, getD}
-use borrow.Author.Tests.{lt-leb, le-leb, le-ltb, lt-ltb, eqb-true, eqb-false}
-use Rattle.common.proofs.Laws.Choice.{cases}
-use Rattle.common.proofs.Laws.Booleans.{or-none-l, or-none-r}
-use Rattle.region.specs.Region.{wantedAt, changes, rises, anyOf}
+use borrow.Author.Tests.{eqb-true, eqb-false, not-true, not-false}
 use Rattle.common.specs.Lists.{within}
+use Rattle.common.proofs.Laws.Choice.{cases}
+use Rattle.common.proofs.Laws.Booleans.{and-l, and-r, and-off, and-none, or-none-l, or-none-r}
+use Rattle.common.proofs.Laws.Places.{within-bounds, within-yes, within-below, within-above}
+use Rattle.region.specs.Region.{wantedAt, changes, rises, anyOf}
 
 -- ---- an address and the region
 
-within-before : (a n address : ℕ) → address < a → within a n address ≡ false
-unfolding within
-within-before a n address h = rw (lt-leb a address h) refl
-
-within-behind : (a n address : ℕ) → a + n ≤ address → within a n address ≡ false
-unfolding within
-within-behind a n address h = rw (le-leb a address (omega arith), le-ltb address (a + n) h) refl
-
-within-inside : (a n address : ℕ) → a ≤ address → address - a < n → within a n address ≡ true
-unfolding within
-within-inside a n address h l = rw (le-leb a address h, lt-ltb address (a + n) (omega arith)) refl
-
 module _ (start : ℕ) (wanted : List ℕ) (address : ℕ) where
-  pub wanted-before : address < start → wantedAt start wanted address ≡ 255
+  pub wanted-in : within start (length wanted) address ≡ true → wantedAt start wanted address ≡ getD wanted (address - start) 0
   unfolding wantedAt
-  wanted-before h = rw (within-before start (length wanted) address h) refl
+  wanted-in e = rw e refl
 
-  pub wanted-behind : start + length wanted ≤ address → wantedAt start wanted address ≡ 255
+  pub wanted-out : within start (length wanted) address ≡ false → wantedAt start wanted address ≡ 255
   unfolding wantedAt
-  wanted-behind h = rw (within-behind start (length wanted) address h) refl
+  wanted-out e = rw e refl
 
   pub wanted-inside : start ≤ address → address - start < length wanted → wantedAt start wanted address ≡ getD wanted (address - start) 0
-  unfolding wantedAt
-  wanted-inside h l = rw (within-inside start (length wanted) address h l) refl
+  wanted-inside h l = wanted-in (within-yes start (length wanted) address h (omega arith))
 
 module _ (array : List ℕ) (start : ℕ) (wanted : List ℕ) (address : ℕ) where
-  pub changes-before : address < start → changes array start wanted address ≡ false
+  pub change-in-region : changes array start wanted address ≡ true → within start (length wanted) address ≡ true
   unfolding changes
-  changes-before h = rw (within-before start (length wanted) address h) refl
+  change-in-region e = and-l (within start (length wanted) address) _ e
+
+  -- a byte that changes is not as wanted, and one of the region that does not is
+  pub change-differs : changes array start wanted address ≡ true → getD array address 0 ≡ wantedAt start wanted address → ⊥
+  unfolding changes
+  change-differs e q =
+      eqb-false (getD array address 0) (wantedAt start wanted address)
+      (not-true (eqb (getD array address 0) (wantedAt start wanted address)) (and-r (within start (length wanted) address) _ e)) q
+
+  pub no-change-as-wanted : within start (length wanted) address ≡ true → changes array start wanted address ≡ false
+      → getD array address 0 ≡ wantedAt start wanted address
+  unfolding changes
+  no-change-as-wanted i e =
+      eqb-true (getD array address 0) (wantedAt start wanted address)
+      (not-false (eqb (getD array address 0) (wantedAt start wanted address)) (and-off (within start (length wanted) address) _ e i))
+
+  pub no-change-outside : within start (length wanted) address ≡ false → changes array start wanted address ≡ false
+  unfolding changes
+  no-change-outside e = and-none (within start (length wanted) address) _ e
+
+  pub changes-before : address < start → changes array start wanted address ≡ false
+  changes-before h = no-change-outside (within-below start (length wanted) address h)
 
   pub changes-behind : start + length wanted ≤ address → changes array start wanted address ≡ false
-  unfolding changes
-  changes-behind h = rw (within-behind start (length wanted) address h) refl
+  changes-behind h = no-change-outside (within-above start (length wanted) address h)
 
   pub changes-inside : start ≤ address → address - start < length wanted
       → changes array start wanted address ≡ not (eqb (getD array address 0) (getD wanted (address - start) 0))
   unfolding changes
-  changes-inside h l = rw (within-inside start (length wanted) address h l, wanted-inside start wanted address h l) refl
+  changes-inside h l = rw (within-yes start (length wanted) address h (omega arith), wanted-inside start wanted address h l) refl
 
 -- the i-th byte of the region
 module _ (array : List ℕ) (start : ℕ) (wanted : List ℕ) (i : ℕ) (h : i < length wanted) where
-  wanted-at : wantedAt start wanted (start + i) ≡ getD wanted i 0
-  wanted-at = let e : start + i - start ≡ i = omega arith in wanted-inside start wanted (start + i) (omega arith) (omega arith) ∙ ap (λ (k : ℕ). getD wanted k 0) e
+  here : start + i - start ≡ i
+  here = omega arith
 
   pub changes-at : changes array start wanted (start + i) ≡ not (eqb (getD array (start + i) 0) (getD wanted i 0))
-  unfolding changes
-  changes-at = rw (within-inside start (length wanted) (start + i) (omega arith) (omega arith), wanted-at) refl
+  changes-at = rw here at (changes-inside array start wanted (start + i) (omega arith) (omega arith))
 
   pub rises-at : rises array start wanted (start + i) ≡ not (eqb (bitAnd (getD array (start + i) 0) (getD wanted i 0)) (getD wanted i 0))
   unfolding rises
-  rises-at = rw wanted-at refl
+  rises-at = rw (wanted-inside start wanted (start + i) (omega arith) (omega arith), here) refl
+
+-- what rises is said by what ANDing leaves
+pub rises-same : (now array : List ℕ) (start : ℕ) (wanted : List ℕ) (address : ℕ)
+    → bitAnd (getD now address 0) (wantedAt start wanted address) ≡ bitAnd (getD array address 0) (wantedAt start wanted address)
+    → rises now start wanted address ≡ rises array start wanted address
+unfolding rises
+rises-same now array start wanted address e = rw e refl
 
 -- ---- one of some addresses
 
@@ -100,3 +114,14 @@ module _ (test : ℕ → Bool) (n i a : ℕ) where
   pub any-end : n ≤ i → anyOf test (n - i) (a + i) ≡ false
   unfolding anyOf
   any-end h = let none : n - i ≡ 0 = omega arith in rw none refl
+
+-- "a wanted 1 where the array has 0": there is none
+pub nothing-rises : (array : List ℕ) (start : ℕ) (wanted : List ℕ) → anyOf (rises array start wanted) (length wanted) start ≡ false
+    → (address : ℕ) → within start (length wanted) address ≡ true
+    → bitAnd (getD array address 0) (wantedAt start wanted address) ≡ wantedAt start wanted address
+unfolding rises
+nothing-rises array start wanted e address i =
+    let b = within-bounds start (length wanted) address i in
+    eqb-true _ _
+    (not-false (eqb (bitAnd (getD array address 0) (wantedAt start wanted address)) (wantedAt start wanted address))
+    (any-false (rises array start wanted) (length wanted) start address e (b .0) (b .1)))

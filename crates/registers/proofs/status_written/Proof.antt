@@ -5,11 +5,11 @@ use borrow.Author.Needs.{needs}
 use Rattle.registers.proofs.status_written.Statement.{statement}
 use Rattle.registers.proofs.status_written.Tie as tie
 
-with-status-requires : tie.Need-with-status-requires
-with-status-requires c κs = search needs
+with-status-byte-requires : tie.Need-with-status-byte-requires
+with-status-byte-requires c κs = search needs
 
 returns : tie.Need-returns
-returns c = rw (c .with-status .ensures) refl
+returns c = rw (c .with-status-byte .ensures) refl
 
 pub status-written-spec : {M : Type 1} → statement M
-status-written-spec = tie.close (tie.spec with-status-requires returns)
+status-written-spec = tie.close (tie.spec with-status-byte-requires returns)

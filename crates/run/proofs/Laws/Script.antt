@@ -6,18 +6,20 @@ use mathlib.Core.List.{List, _∷_, _++_}
 use Prim.Native.Nat.{ℕ}
 use lib.Dec.{eqb}
 use lib.ListN.{length}
-use borrow.Author.Tests.{eq-eqb, ne-eqb}
+use borrow.Author.Tests.{eqb-true, eq-eqb, ne-eqb}
+use Rattle.common.specs.Bits.{Bytes}
 use Rattle.common.proofs.Laws.Choice.{cond-elim, yes, no}
 use Rattle.state.specs.declared.State.{State}
 use Rattle.state.specs.Soundness.{isSound}
-use Rattle.script.specs.Record.{Record, frame, AllBytes}
+use Rattle.script.specs.Record.{Record, frame}
 use Rattle.script.proofs.Laws.Decode.{encode-decode}
 use Rattle.frame.specs.Call.{frameNumber}
 use Rattle.run.specs.declared.Ran.{Ran}
-use Rattle.run.specs.Run.{Device, device, run}
-use Rattle.run.specs.Script.{recordsIn, recordsOf, scriptNumber, ranRecords, refusedRun, scriptAnswer, scriptArray, scriptOutput, ScriptRun, RecordsRun}
+use Rattle.run.specs.Run.{Device, device, run, outputs}
+use Rattle.run.specs.Script.{scriptNumber, ranRecords, refusedRun, scriptAnswer, scriptArray, scriptOutput, ScriptRun, RecordsRun}
+use Rattle.script.specs.Decode.{recordsIn, recordsOf}
 use Rattle.run.proofs.Laws.Accepted.{Accepted}
-use Rattle.run.proofs.Laws.Run.{run-sound, frame-among-taken}
+use Rattle.run.proofs.Laws.Run.{run-sound, frame-accepted-among}
 
 module _ (s : State) (wp : Bool) (array script output : List ℕ) where
   abbrev number : ℕ
@@ -39,13 +41,22 @@ module _ (s : State) (wp : Bool) (array script output : List ℕ) where
         output-is = yes _ t (r .output-is);
       }
 
+  pub script-ran : number ≡ 0
+      → let d = run wp (recordsOf script) (device s array) in
+      ScriptRun s wp array script output (ranRecords (d .state) (recordsOf script)) (d .array) (outputs wp (recordsOf script) (device s array))
+  script-ran e = script-accepted e record { device-is = refl; output-is = refl }
+
+  pub script-answer-number : scriptAnswer s wp array script output .number ≡ number
+  unfolding scriptAnswer
+  script-answer-number = cond-elim (λ (r : Ran). r .number ≡ number) (eqb number 0) (λ t. sym (eqb-true number 0 t)) (λ _. refl)
+
   -- inside an accepted script no frame is refused
-  pub no-frame-refused : AllBytes script → Accepted s (length array) script (length output) → (rs ss : List Record) (f : List ℕ)
+  pub no-frame-refused : Bytes script → Accepted s (length array) script (length output) → (rs ss : List Record) (f : List ℕ)
       → recordsOf script ≡ rs ++ (frame f ∷ ss)
       → let d = run wp rs (device s array) in frameNumber (d .state) (length (d .array)) (length f) (length f) ≡ 0
   no-frame-refused bytes a rs ss f e =
       let list : a .list ≡ rs ++ (frame f ∷ ss) = sym (ap recordsIn (a .decoded)) ∙ e in
-      frame-among-taken wp rs ss f (device s array) (rw list at (encode-decode script (a .list) bytes (a .decoded) .1))
+      frame-accepted-among wp rs ss f (device s array) (rw list at (encode-decode script (a .list) bytes (a .decoded) .1))
       record { sound = a .sound; sized = a .sized }
 
   -- "Every call returns a sound state from a sound one."

@@ -1,4 +1,4 @@
--- `script::script_number` meets its contract: each test is its refusal's condition, in the order of the list.
+-- `run::script_number` meets its contract: each test is its refusal's condition, in the order of the list.
 -- Assumes nothing.
 use mathlib.Core.Path.{refl, ap}
 use mathlib.Core.Bool.{not}

@@ -1,10 +1,8 @@
 -- The planner's sample session holds: only the byte at 012345 is looked at, and the rest computes.
 -- Assumes nothing.
 use mathlib.Core.Path.{_≡_, refl}
-use mathlib.Core.List.{List}
-use Prim.Native.Nat.{ℕ, _<_}
 use native.Mathlib.Omega.{arith}
-use lib.ListN.{length, getD}
+use lib.ListN.{getD}
 use Rattle.chip.specs.Chip.{chipOf, isKnown}
 use Rattle.state.specs.Protection.{firstProtected}
 use Rattle.state.specs.Soundness.{isSound}

@@ -1,38 +1,39 @@
 -- Every sample session holds: one test computed over a memory function instead of an array, and a lemma that turns it into the session's facts.
 -- Assumes nothing.
 use mathlib.Core.Path.{_≡_, refl, sym, ap, _∙_}
-use mathlib.Core.Bool.{Bool, true, false, _&&_, not, cond}
-use mathlib.Core.List.{List, [], _∷_, _++_}
+use mathlib.Core.Bool.{Bool, true, false, _&&_, not}
+use mathlib.Core.List.{List, [], _∷_}
 use Prim.Native.Nat.{ℕ, _<_}
 use native.Mathlib.Omega.{arith}
 use lib.Dec.{leb, ltb, eqb}
 use lib.ListN.{length, getD}
 use borrow.Author.Tests.{eqb-true, ltb-true}
-use Rattle.common.specs.Lists.{mapi, tab, within}
+use Rattle.common.specs.Lists.{tab, within, Each}
 use Rattle.common.proofs.Laws.Booleans.{and-l, and-r}
 use Rattle.common.proofs.Laws.Lists.{length-mapi, getD-mapi, tab-cong}
+use Rattle.common.proofs.Laws.Each.{each-append}
 use Rattle.state.specs.declared.State.{State}
 use Rattle.state.specs.declared.Answer.{Answer}
-use Rattle.chip.specs.Chip.{chipOf, isKnown}
+use Rattle.chip.specs.Chip.{chipOf, isKnown, kindOf}
 use Rattle.state.specs.State.{dataOf}
 use Rattle.state.specs.Status.{statusOf}
 use Rattle.state.specs.Protection.{firstProtected}
 use Rattle.state.specs.Soundness.{isSound}
 use Rattle.state.specs.Power.{newState, newChip}
 use Rattle.state.specs.Time.{cycleEnded, timePassed, passTime}
-use Rattle.state.proofs.Laws.Answer.{answer-sound}
-use Rattle.chip.specs.Instructions.{kindOf}
+use Rattle.state.proofs.Laws.Passed.{pass-time-granted}
+use Rattle.state.proofs.Laws.Soundness.{sound-of}
 use Rattle.command.specs.Command.{address, writable, byKind, inAai, commandOf}
 use Rattle.registers.specs.Registers.{stateAfter}
 use Rattle.output.specs.Output.{memory, shownAt}
 use Rattle.effect.specs.Effect.{pageEffect, touches, struck, changed}
-use Rattle.frame.specs.Call.{frameNumber, effectAt, stateAt, frameAnswer, frameArray, frameOutput, FrameRun}
+use Rattle.frame.specs.Call.{frameNumber, effectAt, stateAt, frameAnswer, frameArray, frameOutput}
 use Rattle.frame.proofs.Laws.Accepted.{number-accepted}
 use Rattle.frame.proofs.Laws.Call.{frame-accepted}
 use Rattle.samples.specs.Session.{Step, send, pass, byteIs, protects, plans, Runs, Session, Holds}
 use Rattle.samples.specs.Table.{frameSessions, planSession, sessions}
 use Rattle.samples.proofs.Laws.Plan.{plan-holds}
-use Rattle.samples.proofs.Laws.Memory.{shown-by-memory}
+use Rattle.output.proofs.Laws.Memory.{shown-by-memory}
 
 same : List ℕ → List ℕ → Bool
 same [] [] = true
@@ -77,9 +78,6 @@ Agree size array m = (length array ≡ size) × ((k : ℕ) → k < size → getD
 
 -- a frame, seen through the memory
 module _ (size : ℕ) (s : State) (f : List ℕ) (m : ℕ → ℕ) (array : List ℕ) (q : frameNumber s size (length f) (length f) ≡ 0) where
-  ran : Agree size array m → FrameRun s true array f f (frameAnswer s true array f f) (frameArray s true array f f) (frameOutput s true array f f)
-  ran a = record { answers = refl; array-is = refl; output-is = refl }
-
   number-0 : Agree size array m → frameNumber s (length array) (length f) (length f) ≡ 0
   unfolding Agree
   number-0 a = rw (a .0) q
@@ -104,10 +102,6 @@ module _ (size : ℕ) (s : State) (f : List ℕ) (m : ℕ → ℕ) (array : List
         λ k h. ap (λ (l : List ℕ). getD l k 0) e ∙ getD-mapi F array k 0 (omega (arith, a .0)) ∙ ap (F k) (a .1 k h),
       )
 
-time-passes : (s : State) (n : ℕ) → isSound s ≡ true → passTime s n ≡ record { number = 0; state = timePassed s n }
-unfolding passTime
-time-passes s n h = sym (answer-sound s (timePassed s n) h)
-
 byte-there : (size : ℕ) (array : List ℕ) (m : ℕ → ℕ) (address byte : ℕ) → Agree size array m → address < size → m address ≡ byte → getD array address 0 ≡ byte
 unfolding Agree
 byte-there size array m address byte a h b = a .1 address h ∙ b
@@ -124,7 +118,7 @@ runs size (send f output ∷ steps) s m array e a =
       rw u (runs size steps (stateAt s true f) (after s f m) (frameArray s true array f f) (and-r t _ r) (leaves size s f m array n a)),
     )
 runs size (pass n ∷ steps) s m array e a =
-    let z : passTime s n ≡ record { number = 0; state = timePassed s n } = time-passes s n (and-l (isSound s) _ e) in
+    let z : passTime s n ≡ record { number = 0; state = timePassed s n } = pass-time-granted s n (sound-of s (and-l (isSound s) _ e)) in
     (ap (λ (x : Answer). x .number) z, rw z (runs size steps (timePassed s n) m array (and-r (isSound s) _ e) a))
 runs size (byteIs address byte ∷ steps) s m array e a =
     let r = and-r (ltb address size) _ e in
@@ -137,11 +131,7 @@ abbrev passes : List Session → Bool
 passes [] = true
 passes (x ∷ xs) = test (dataOf (x .state) .size) (x .state) (λ _. x .fill) (x .steps) && passes xs
 
-abbrev pub All : {A : Type 0} → (A → Type 0) → List A → Type 0
-All P [] = Unit {0}
-All P (x ∷ xs) = P x × All P xs
-
-all-hold : (xs : List Session) → passes xs ≡ true → All Holds xs
+all-hold : (xs : List Session) → passes xs ≡ true → Each Holds xs
 unfolding Agree
 all-hold [] e = tt
 all-hold (x ∷ xs) e =
@@ -152,9 +142,5 @@ computed : passes frameSessions ≡ true
 unfolding test same bool-same isSound chipOf isKnown statusOf firstProtected newState newChip cycleEnded timePassed kindOf address writable byKind inAai commandOf stateAfter shownAt pageEffect touches struck changed frameNumber within
 computed = refl
 
-all-append : {A : Type 0} (P : A → Type 0) (xs ys : List A) → All P xs → All P ys → All P (xs ++ ys)
-all-append P [] ys p q = q
-all-append P (x ∷ xs) ys p q = (p .0, all-append P xs ys (p .1) q)
-
-pub samples-hold : All Holds sessions
-samples-hold = all-append Holds frameSessions (planSession ∷ []) (all-hold frameSessions computed) (plan-holds, tt)
+pub samples-hold : Each Holds sessions
+samples-hold = each-append Holds frameSessions (planSession ∷ []) (all-hold frameSessions computed) (plan-holds, tt)

@@ -1,4 +1,4 @@
--- What an answer of the reader tells of the script, and which answer a script gives whose records are known.
+-- What an answer of the reader tells of the script.
 -- Assumes nothing.
 use mathlib.Core.Path.{_≡_, refl, sym, ap, _∙_}
 use mathlib.Core.List.{List, [], _∷_}
@@ -11,13 +11,12 @@ use borrow.Author.Tests.{ltb-true, ltb-false}
 use Rattle.common.proofs.Laws.Choice.{cond-elim}
 use Rattle.script.specs.Record.{Record, frame, wait, recordLength}
 use Rattle.common.specs.Limits.{longestScript}
-use Rattle.script.specs.Decode.{Fault, faultNumber, Front, end, item, malformed, front, records, badAt, followed, decode}
+use Rattle.script.specs.Decode.{Fault, faultNumber, Front, end, item, malformed, front, Decoded, records, badAt, followed, decode}
 use Rattle.script.specs.Reader.{numberOf, nextOf, partOf, answer, recordAt, framePart}
 use Rattle.script.specs.declared.reader.Found.{Found}
 use Rattle.script.specs.declared.reader.Found.the-variants.{Frame, Wait, End, Refused}
 use Rattle.script.proofs.Laws.Front.{front-seen, front-item}
-use Rattle.script.proofs.Laws.Decode.{decode-end, decode-item, decode-malformed, decoded-none, decoded-first}
-use Rattle.script.proofs.Laws.Places.{front-at-end}
+use Rattle.script.proofs.Laws.Decode.{decode-end, decode-item, decode-malformed}
 use Rattle.script.proofs.Laws.Reader.{record-at-inside}
 
 -- the record r stands at an offset, and next is the offset behind it
@@ -42,8 +41,22 @@ stands script offset {r} {rest} e =
       inside = omega (arith, i .length-is, i .least, length-drop offset script);
     }
 
+-- where the records from an offset on are known, the one that stands there is the first
+pub record First (script : List ℕ) (next : ℕ) (r : Record) (left : List Record) : Type 0 where
+  pub others : List Record
+  pub is : left ≡ r ∷ others
+  pub decoded : decode (drop next script) ≡ records others
+
+pub stands-first : {script : List ℕ} {offset next : ℕ} {r : Record} {left : List Record} → Stands script offset r next
+    → decode (drop offset script) ≡ records left → First script next r left
+stands-first {script} {offset} {next} {r} {left} t e = by-decoded (decode (drop next script)) refl (sym (t .decoded) ∙ e)
+  where
+    by-decoded : (d : Decoded) → decode (drop next script) ≡ d → followed r d ≡ records left → First script next r left
+    by-decoded (records rs) q h = let is : left ≡ r ∷ rs = cc in record { others = rs; is = is; decoded = q }
+    by-decoded (badAt fault at) q h = let z : _≡_ {A = ℕ} 0 1 = cc in absurd (omega arith)
+
 -- the bytes of a frame that stands at an offset
-pub frame-bytes : (script : List ℕ) (offset : ℕ) {bytes rest : List ℕ} → front (drop offset script) ≡ item (frame bytes) rest
+frame-bytes : (script : List ℕ) (offset : ℕ) {bytes rest : List ℕ} → front (drop offset script) ≡ item (frame bytes) rest
     → take (length bytes) (drop (offset + 4) script) ≡ bytes
 frame-bytes script offset {bytes} e =
     rw (← drop-drop 4 offset script) (sym (front-item (drop offset script) e .body))
@@ -70,7 +83,7 @@ Told script offset (Wait microseconds next) = Stands script offset (wait microse
 Told script offset (End next) = (next ≡ offset) × EndTold script offset
 Told script offset (Refused number next) = (next ≡ offset) × (length script ≤ longestScript → offset ≤ length script → RefusalTold script offset number)
 
-pub record-at-told : (script : List ℕ) (offset : ℕ) → Told script offset (recordAt script offset)
+record-at-told : (script : List ℕ) (offset : ℕ) → Told script offset (recordAt script offset)
 unfolding recordAt
 record-at-told script offset =
     cond-elim (Told script offset) (ltb longestScript (length script))
@@ -119,27 +132,3 @@ refusal-gives-back script offset =
     by-front (item (frame bytes) rest) h = absurd (omega arith)
     by-front (item (wait microseconds) rest) h = absurd (omega arith)
     by-front (malformed fault) h = (refl, refl)
-
--- the next record, where the records from an offset on are known
-pub record NextRead (script : List ℕ) (offset : ℕ) (r : Record) (rs : List Record) : Type 0 where
-  pub found : recordAt script offset ≡ answer offset (item r (drop (offset + recordLength r) script))
-  pub others : decode (drop (offset + recordLength r) script) ≡ records rs
-  pub stands : Stands script offset r (offset + recordLength r)
-
-pub next-read : (script : List ℕ) (offset : ℕ) {r : Record} {rs : List Record} → length script ≤ longestScript
-    → decode (drop offset script) ≡ records (r ∷ rs) → NextRead script offset r rs
-next-read script offset {r} {rs} short e =
-    let h = decoded-first (drop offset script) e in
-    let s = stands script offset (h .first) in
-    record {
-      found = record-at-inside script offset short (omega (arith, s .inside, s .least)) ∙ ap (answer offset) (s .here);
-      others = rw (drop-drop (recordLength r) offset script) at (h .others);
-      stands = s;
-    }
-
-pub next-read-end : (script : List ℕ) (offset : ℕ) → length script ≤ longestScript → offset ≤ length script
-    → decode (drop offset script) ≡ records [] → (recordAt script offset ≡ End offset) × (offset ≡ length script)
-next-read-end script offset short inside e =
-    let none : drop offset script ≡ [] = decoded-none (drop offset script) e in
-    let at-end : offset ≡ length script = omega (arith, ap length none, length-drop offset script) in
-    (record-at-inside script offset short inside ∙ ap (answer offset) (front-at-end script offset (omega arith)), at-end)

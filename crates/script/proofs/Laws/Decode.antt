@@ -1,14 +1,16 @@
--- The laws of `decode`: one record after another, the same records as were written, the same bytes as were read, and scripts laid one after another.
+-- The laws of `decode`: one record after another, the same records as were written, and the same bytes as were read.
 -- Assumes nothing.
 use mathlib.Core.Path.{_≡_, refl, sym, ap, _∙_}
 use mathlib.Core.List.{List, [], _∷_, _++_}
-use Prim.Native.Nat.{ℕ, zero, suc, _+_, _*_, _≤_, _<_}
+use Prim.Native.Nat.{ℕ, zero, suc, _≤_, _<_}
 use native.Mathlib.Nat.{le-refl}
 use native.Mathlib.Omega.{arith}
 use lib.ListN.{length, drop}
-use Rattle.script.specs.Record.{Record, frame, wait, AllBytes, AllFit, encodeRecord, encode, recordLength, scriptLength, framesIn, microsecondsIn, outputLength}
+use Rattle.common.specs.Bits.{Bytes}
+use Rattle.common.proofs.Laws.Bits.{bytes-drop}
+use Rattle.script.specs.Record.{Record, AllFit, encodeRecord, encode, recordLength, scriptLength, outputLength}
 use Rattle.script.specs.Decode.{Fault, Front, end, item, malformed, front, Decoded, records, badAt, followed, decodeOn, decodeWithin, decode}
-use Rattle.script.proofs.Laws.Records.{output-bound, microseconds-bound}
+use Rattle.script.proofs.Laws.Records.{output-bound}
 use Rattle.script.proofs.Laws.Front.{front-encode, front-seen, front-item}
 
 -- where the bytes are at most as many as the turns, more turns read the same
@@ -89,19 +91,14 @@ decode-encode [] a = decode-end [] refl
 decode-encode (r ∷ rs) a =
     decode-item (encodeRecord r ++ encode rs) (front-encode r (encode rs) (a .0)) ∙ ap (followed r) (decode-encode rs (a .1))
 
-all-bytes-drop : (n : ℕ) (bytes : List ℕ) → AllBytes bytes → AllBytes (drop n bytes)
-all-bytes-drop zero bytes b = b
-all-bytes-drop (suc n) [] b = b
-all-bytes-drop (suc n) (x ∷ bytes) b = all-bytes-drop n bytes (b .1)
-
 -- bytes that are read are the script of their records, and these fit
-pub encode-decode : (bytes : List ℕ) (rs : List Record) → AllBytes bytes → decode bytes ≡ records rs → (encode rs ≡ bytes) × AllFit rs
+pub encode-decode : (bytes : List ℕ) (rs : List Record) → Bytes bytes → decode bytes ≡ records rs → (encode rs ≡ bytes) × AllFit rs
 unfolding encode
 encode-decode bytes [] b e = (sym (decoded-none bytes e), tt)
 encode-decode bytes (r ∷ rs) b e =
     let h = decoded-first bytes e in
     let first = front-item bytes (h .first) .encoded b in
-    let behind = encode-decode (drop (recordLength r) bytes) rs (all-bytes-drop (recordLength r) bytes b) (h .others) in
+    let behind = encode-decode (drop (recordLength r) bytes) rs (bytes-drop (recordLength r) bytes b) (h .others) in
     (ap (λ (l : List ℕ). encodeRecord r ++ l) (behind .0) ∙ sym (first .0), (first .1, behind .1))
 
 -- records that are read are as long as their bytes
@@ -112,31 +109,6 @@ decoded-length bytes (r ∷ rs) e =
     let h = decoded-first bytes e in
     omega (arith, front-item bytes (h .first) .length-is, decoded-length (drop (recordLength r) bytes) rs (h .others))
 
--- two scripts, one after the other
-pub decode-append : (xs ys : List ℕ) (rs ss : List Record) → decode xs ≡ records rs → decode ys ≡ records ss → decode (xs ++ ys) ≡ records (rs ++ ss)
-decode-append xs ys [] ss e f = rw (decoded-none xs e) f
-decode-append xs ys (r ∷ rs) ss e f =
-    let h = decoded-first xs e in
-    let rest : List ℕ = drop (recordLength r) xs in
-    decode-item (xs ++ ys) (front-item xs (h .first) .grows ys) ∙ ap (followed r) (decode-append rest ys rs ss (h .others) f)
-
--- how many frames, and how much output, so many bytes can hold
-pub decoded-frames : (bytes : List ℕ) (rs : List Record) → decode bytes ≡ records rs → framesIn rs * 5 ≤ length bytes
-unfolding framesIn
-decoded-frames bytes [] e = omega arith
-decoded-frames bytes (frame body ∷ rs) e =
-    let h = decoded-first bytes e in
-    let i = front-item bytes (h .first) in
-    omega (arith, i .length-is, i .least, decoded-frames (drop (recordLength (frame body)) bytes) rs (h .others))
-decoded-frames bytes (wait n ∷ rs) e =
-    let h = decoded-first bytes e in
-    let i = front-item bytes (h .first) in
-    omega (arith, i .length-is, decoded-frames (drop (recordLength (wait n)) bytes) rs (h .others))
-
+-- how much output so many bytes can hold
 pub decoded-output : (bytes : List ℕ) (rs : List Record) → decode bytes ≡ records rs → outputLength rs ≤ length bytes
 decoded-output bytes rs e = omega (arith, output-bound rs, decoded-length bytes rs e)
-
--- and how many microseconds
-pub decoded-microseconds : (bytes : List ℕ) (rs : List Record) → AllBytes bytes → decode bytes ≡ records rs
-    → microsecondsIn rs * 6 ≤ length bytes * 4294967295
-decoded-microseconds bytes rs b e = omega (arith, microseconds-bound rs (encode-decode bytes rs b e .1), decoded-length bytes rs e)

@@ -8,11 +8,12 @@ use native.Mathlib.Nat.{div-div-eq-div-mul, div-add-mod'}
 use native.Mathlib.Omega.{arith}
 use lib.Dec.{eqb, ltb}
 use lib.ListN.{length, take, drop, length-append, length-drop, take-append-drop}
-use lib.Seq.{take-append-seam, drop-append-seam, take-append-le, drop-append-le, length-take-le}
+use lib.Seq.{take-append-seam, drop-append-seam, length-take-le}
 use borrow.Author.Tests.{eqb-true, ltb-false, lt-ltb, le-ltb}
 use Rattle.common.proofs.Laws.Booleans.{and-l, and-r, or-none-l, or-none-r}
 use Rattle.common.proofs.Laws.Choice.{cond-elim, yes, no}
-use Rattle.script.specs.Record.{Record, frame, wait, AllBytes, Fits, encodeRecord, recordLength}
+use Rattle.script.specs.Record.{Record, frame, wait, scriptMark, frameMark, waitMark, Fits, encodeRecord, recordLength}
+use Rattle.common.specs.Bits.{Bytes}
 use Rattle.common.specs.Numbers.{twoBytes, fourBytes}
 use Rattle.common.specs.Limits.{longestFrame}
 use Rattle.script.specs.Decode.{wrongLength, cutShort, Front, end, item, malformed, frontBody, frontFrame, frontWait, front}
@@ -60,8 +61,7 @@ pub record Item (bytes : List ℕ) (r : Record) (rest : List ℕ) : Type 0 where
   pub rest-is : rest ≡ drop (recordLength r) bytes
   pub body : Body bytes r
   pub least : 5 ≤ recordLength r
-  pub encoded : AllBytes bytes → (bytes ≡ encodeRecord r ++ rest) × Fits r
-  pub grows : (more : List ℕ) → front (bytes ++ more) ≡ item r (rest ++ more)
+  pub encoded : Bytes bytes → (bytes ≡ encodeRecord r ++ rest) × Fits r
 
 -- what is known of whatever stands there
 abbrev pub Seen : List ℕ → Front → Type 0
@@ -69,7 +69,7 @@ Seen bytes end = bytes ≡ []
 Seen bytes (item r rest) = Item bytes r rest
 Seen bytes (malformed fault) = Unit {0}
 
-frame-item : (first second high low : ℕ) (rest : List ℕ) → eqb first 0x5a && eqb second 0x46 ≡ true
+frame-item : (first second high low : ℕ) (rest : List ℕ) → eqb first scriptMark && eqb second frameMark ≡ true
     → ltb (twoBytes high low) 1 || ltb longestFrame (twoBytes high low) ≡ false → twoBytes high low ≤ length rest
     → Item (first ∷ second ∷ high ∷ low ∷ rest) (frame (take (twoBytes high low) rest)) (drop (twoBytes high low) rest)
 unfolding front frontFrame encodeRecord
@@ -85,20 +85,15 @@ frame-item first second high low rest mark right inside =
       body = rw long refl;
       least = omega arith;
       encoded = λ b.
-          let is : first ≡ 0x5a = eqb-true first 0x5a (and-l (eqb first 0x5a) (eqb second 0x46) mark) in
-          let also : second ≡ 0x46 = eqb-true second 0x46 (and-r (eqb first 0x5a) (eqb second 0x46) mark) in
-          let h : n / 256 ≡ high = omega (arith, b .1 .1 .1 .0) in
-          let l : n % 256 ≡ low = omega (arith, b .1 .1 .1 .0) in
+          let is : first ≡ scriptMark = eqb-true first scriptMark (and-l (eqb first scriptMark) (eqb second frameMark) mark) in
+          let also : second ≡ frameMark = eqb-true second frameMark (and-r (eqb first scriptMark) (eqb second frameMark) mark) in
+          let small : low < 256 = b 3 in
+          let h : n / 256 ≡ high = omega (arith, small) in
+          let l : n % 256 ≡ low = omega (arith, small) in
           (rw (long, is, also, h, l, take-append-drop n rest) refl, (omega arith, omega arith));
-      grows = λ more.
-          sym
-          (yes _ mark
-          (sym
-          (body-whole n (rest ++ more) right (omega (arith, length-append rest more))
-          ∙ ap₂ (λ (x y : List ℕ). item (frame x) y) (take-append-le n rest more inside) (drop-append-le n rest more inside))));
     }
 
-wait-item : (first second a b c d : ℕ) (rest : List ℕ) → eqb first 0x5a && eqb second 0x46 ≡ false → eqb first 0x5a && eqb second 0x57 ≡ true
+wait-item : (first second a b c d : ℕ) (rest : List ℕ) → eqb first scriptMark && eqb second frameMark ≡ false → eqb first scriptMark && eqb second waitMark ≡ true
     → Item (first ∷ second ∷ a ∷ b ∷ c ∷ d ∷ rest) (wait (fourBytes a b c d)) rest
 unfolding front frontWait encodeRecord
 wait-item first second a b c d rest other mark = record {
@@ -108,21 +103,20 @@ wait-item first second a b c d rest other mark = record {
   least = omega arith;
   encoded = λ h.
       let n : ℕ = fourBytes a b c d in
-      let small-a : a < 256 = h .1 .1 .0 in
-      let small-b : b < 256 = h .1 .1 .1 .0 in
-      let small-c : c < 256 = h .1 .1 .1 .1 .0 in
-      let small-d : d < 256 = h .1 .1 .1 .1 .1 .0 in
-      let is : first ≡ 0x5a = eqb-true first 0x5a (and-l (eqb first 0x5a) (eqb second 0x57) mark) in
-      let also : second ≡ 0x57 = eqb-true second 0x57 (and-r (eqb first 0x5a) (eqb second 0x57) mark) in
+      let small-a : a < 256 = h 2 in
+      let small-b : b < 256 = h 3 in
+      let small-c : c < 256 = h 4 in
+      let small-d : d < 256 = h 5 in
+      let is : first ≡ scriptMark = eqb-true first scriptMark (and-l (eqb first scriptMark) (eqb second waitMark) mark) in
+      let also : second ≡ waitMark = eqb-true second waitMark (and-r (eqb first scriptMark) (eqb second waitMark) mark) in
       let ea : n / 16777216 ≡ a = omega arith in
       let eb : n / 65536 % 256 ≡ b = omega arith in
       let ec : n / 256 % 256 ≡ c = omega arith in
       let ed : n % 256 ≡ d = omega arith in
       (rw (is, also, ea, eb, ec, ed) refl, omega arith);
-  grows = λ more. sym (no _ other (yes _ mark refl));
 }
 
-frame-seen : (first second : ℕ) (bytes : List ℕ) → eqb first 0x5a && eqb second 0x46 ≡ true → Seen (first ∷ second ∷ bytes) (frontFrame bytes)
+frame-seen : (first second : ℕ) (bytes : List ℕ) → eqb first scriptMark && eqb second frameMark ≡ true → Seen (first ∷ second ∷ bytes) (frontFrame bytes)
 unfolding frontFrame frontBody
 frame-seen first second [] mark = tt
 frame-seen first second (high ∷ []) mark = tt
@@ -133,7 +127,7 @@ frame-seen first second (high ∷ low ∷ rest) mark =
     (λ right. cond-elim P (ltb (length rest) n) (λ _. tt)
     (λ whole. frame-item first second high low rest mark right (ltb-false (length rest) n whole)))
 
-wait-seen : (first second : ℕ) (bytes : List ℕ) → eqb first 0x5a && eqb second 0x46 ≡ false → eqb first 0x5a && eqb second 0x57 ≡ true
+wait-seen : (first second : ℕ) (bytes : List ℕ) → eqb first scriptMark && eqb second frameMark ≡ false → eqb first scriptMark && eqb second waitMark ≡ true
     → Seen (first ∷ second ∷ bytes) (frontWait bytes)
 unfolding frontWait
 wait-seen first second [] other mark = tt
@@ -148,8 +142,8 @@ front-seen [] = refl
 front-seen (first ∷ []) = tt
 front-seen (first ∷ second ∷ bytes) =
     let P = Seen (first ∷ second ∷ bytes) in
-    cond-elim P (eqb first 0x5a && eqb second 0x46) (λ mark. frame-seen first second bytes mark)
-    (λ other. cond-elim P (eqb first 0x5a && eqb second 0x57) (λ mark. wait-seen first second bytes other mark) (λ _. tt))
+    cond-elim P (eqb first scriptMark && eqb second frameMark) (λ mark. frame-seen first second bytes mark)
+    (λ other. cond-elim P (eqb first scriptMark && eqb second waitMark) (λ mark. wait-seen first second bytes other mark) (λ _. tt))
 
 -- a record that is read
 pub front-item : (bytes : List ℕ) {r : Record} {rest : List ℕ} → front bytes ≡ item r rest → Item bytes r rest

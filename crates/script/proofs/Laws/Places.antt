@@ -10,7 +10,7 @@ use lib.Dec.{eqb}
 use lib.ListN.{length, getD, drop, drop-of-length-le}
 use lib.Seq.{drop-cons}
 use Rattle.common.proofs.Laws.Choice.{yes, no}
-use Rattle.script.specs.Record.{wait}
+use Rattle.script.specs.Record.{wait, scriptMark, frameMark, waitMark}
 use Rattle.script.specs.Decode.{unknownMark, cutShort, end, item, malformed, frontBody, frontFrame, frontWait, front}
 use Rattle.script.specs.Reader.{twoBytesAt, fourBytesAt}
 
@@ -20,16 +20,16 @@ two-from s at h = rw (add-two at, add-one at, drop-cons s at 0 (omega arith), dr
 
 -- two bytes are there for the mark: it decides
 module _ (s : List ℕ) (at : ℕ) (there : at + 2 ≤ length s) where
-  pub front-frame : eqb (getD s at 0) 0x5a && eqb (getD s (at + 1) 0) 0x46 ≡ true → front (drop at s) ≡ frontFrame (drop (at + 2) s)
+  pub front-frame : eqb (getD s at 0) scriptMark && eqb (getD s (at + 1) 0) frameMark ≡ true → front (drop at s) ≡ frontFrame (drop (at + 2) s)
   unfolding front
   front-frame mark = rw (two-from s at there) (sym (yes _ mark refl))
 
-  pub front-wait : eqb (getD s at 0) 0x5a && eqb (getD s (at + 1) 0) 0x46 ≡ false → eqb (getD s at 0) 0x5a && eqb (getD s (at + 1) 0) 0x57 ≡ true
+  pub front-wait : eqb (getD s at 0) scriptMark && eqb (getD s (at + 1) 0) frameMark ≡ false → eqb (getD s at 0) scriptMark && eqb (getD s (at + 1) 0) waitMark ≡ true
       → front (drop at s) ≡ frontWait (drop (at + 2) s)
   unfolding front
   front-wait other mark = rw (two-from s at there) (sym (no _ other (yes _ mark refl)))
 
-  pub front-unknown : eqb (getD s at 0) 0x5a && eqb (getD s (at + 1) 0) 0x46 ≡ false → eqb (getD s at 0) 0x5a && eqb (getD s (at + 1) 0) 0x57 ≡ false
+  pub front-unknown : eqb (getD s at 0) scriptMark && eqb (getD s (at + 1) 0) frameMark ≡ false → eqb (getD s at 0) scriptMark && eqb (getD s (at + 1) 0) waitMark ≡ false
       → front (drop at s) ≡ malformed unknownMark
   unfolding front
   front-unknown other neither = rw (two-from s at there) (sym (no _ other (no _ neither refl)))

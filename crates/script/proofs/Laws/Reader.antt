@@ -6,12 +6,13 @@ use mathlib.Core.List.{List}
 use Prim.Native.Nat.{ℕ, _+_, _-_, _≤_, _<_}
 use native.Mathlib.Omega.{arith}
 use lib.Dec.{ltb}
-use lib.ListN.{length, take, drop, length-drop}
+use lib.ListN.{length, drop, length-drop}
 use lib.Seq.{length-take-le}
 use borrow.Author.Tests.{lt-ltb, le-ltb}
 use Rattle.common.proofs.Laws.Choice.{yes, no}
-use Rattle.script.specs.Record.{frame, wait, recordLength}
+use Rattle.script.specs.Record.{frame, wait}
 use Rattle.common.specs.Limits.{longestFrame, longestScript}
+use Rattle.common.specs.Refusals.{scriptTooLong}
 use Rattle.script.specs.Decode.{wrongLength, cutShort, faultNumber, Front, end, item, malformed, frontFrame, frontWait, front}
 use Rattle.script.specs.Reader.{twoBytesAt, fourBytesAt, numberOf, answer, recordAt, frontNumber, readerNumber, framePart}
 use Rattle.script.specs.declared.reader.Found.{Found}
@@ -31,8 +32,8 @@ record-at-number script offset = by-tests (ltb longestScript (length script)) (l
     answer-number (malformed fault) = refl
 
     by-tests : (long past : Bool)
-        → numberOf (cond long (Refused 11 offset) (cond past (Refused (faultNumber cutShort) offset) (answer offset (front (drop offset script)))))
-        ≡ cond long 11 (cond past (faultNumber cutShort) (frontNumber (front (drop offset script))))
+        → numberOf (cond long (Refused scriptTooLong offset) (cond past (Refused (faultNumber cutShort) offset) (answer offset (front (drop offset script)))))
+        ≡ cond long scriptTooLong (cond past (faultNumber cutShort) (frontNumber (front (drop offset script))))
     by-tests true past = refl
     by-tests false true = refl
     by-tests false false = answer-number (front (drop offset script))
@@ -42,7 +43,7 @@ pub record-at-promised : (script : List ℕ) (offset : ℕ) {found : Found} → 
     → (found ≡ recordAt script offset) × (numberOf found ≡ readerNumber script offset)
 record-at-promised script offset e = (e, ap numberOf e ∙ record-at-number script offset)
 
-pub record-at-long : (script : List ℕ) (offset : ℕ) → longestScript < length script → recordAt script offset ≡ Refused 11 offset
+pub record-at-long : (script : List ℕ) (offset : ℕ) → longestScript < length script → recordAt script offset ≡ Refused scriptTooLong offset
 unfolding recordAt
 record-at-long script offset long = sym (yes _ (lt-ltb longestScript (length script) long) refl)
 

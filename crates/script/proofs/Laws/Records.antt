@@ -1,20 +1,34 @@
--- The laws of `encode` and of the counts: of records one after another (`-append`), and how the script's length bounds them (`-bound`).
+-- The laws of `encode` and of the counts: of no records, of a first one and the others, of records one after another (`-append`), and how the script's
+-- length bounds them (`-bound`).
 -- Assumes nothing.
 use mathlib.Core.Path.{_≡_, refl}
 use mathlib.Core.List.{List, [], _∷_, _++_, append-assoc}
-use Prim.Native.Nat.{ℕ, suc, _+_, _*_, _≤_, _<_}
+use Prim.Native.Nat.{ℕ, _+_, _*_, _≤_}
 use native.Mathlib.Omega.{arith}
-use lib.ListN.{length, getD, length-append}
-use Rattle.script.specs.Record.{Record, frame, wait, AllBytes, Fits, AllFit, encodeRecord, encode, recordLength, scriptLength, framesIn, microsecondsIn, outputLength}
-
--- a list whose elements are bytes
-pub all-bytes : (bytes : List ℕ) → ((k : ℕ) → k < length bytes → getD bytes k 0 < 256) → AllBytes bytes
-all-bytes [] h = tt
-all-bytes (x ∷ bytes) h = (h 0 (omega arith), all-bytes bytes (λ k b. h (suc k) (omega arith)))
+use lib.ListN.{length, length-append}
+use Rattle.common.proofs.Laws.Each.{each-append, each-left, each-right}
+use Rattle.script.specs.Record.{Record, frame, wait, Fits, AllFit, frameHead, encodeRecord, encode, recordLength, scriptLength, framesIn, microsecondsIn, outputLength}
 
 pub all-fit-append : (rs ss : List Record) → AllFit rs → AllFit ss → AllFit (rs ++ ss)
-all-fit-append [] ss a b = b
-all-fit-append (r ∷ rs) ss a b = (a .0, all-fit-append rs ss (a .1) b)
+all-fit-append = each-append Fits
+
+pub all-fit-left : (rs ss : List Record) → AllFit (rs ++ ss) → AllFit rs
+all-fit-left = each-left Fits
+
+pub all-fit-right : (rs ss : List Record) → AllFit (rs ++ ss) → AllFit ss
+all-fit-right = each-right Fits
+
+pub encode-none : encode [] ≡ []
+unfolding encode
+encode-none = refl
+
+pub encode-front : (r : Record) (rs : List Record) → encode (r ∷ rs) ≡ encodeRecord r ++ encode rs
+unfolding encode
+encode-front r rs = refl
+
+pub encoded-frame : (bytes : List ℕ) → encodeRecord (frame bytes) ≡ frameHead (length bytes) ++ bytes
+unfolding encodeRecord
+encoded-frame bytes = refl
 
 pub encode-append : (rs ss : List Record) → encode (rs ++ ss) ≡ encode rs ++ encode ss
 unfolding encode
@@ -39,12 +53,29 @@ output-append [] ss = omega arith
 output-append (frame bytes ∷ rs) ss = omega (arith, output-append rs ss)
 output-append (wait n ∷ rs) ss = output-append rs ss
 
+-- a first record's bytes of output, and the others'
+pub output-none : outputLength [] ≡ 0
+unfolding outputLength
+output-none = refl
+
+pub output-frame : (bytes : List ℕ) (rs : List Record) → outputLength (frame bytes ∷ rs) ≡ length bytes + outputLength rs
+unfolding outputLength
+output-frame bytes rs = refl
+
+pub output-wait : (n : ℕ) (rs : List Record) → outputLength (wait n ∷ rs) ≡ outputLength rs
+unfolding outputLength
+output-wait n rs = refl
+
+pub script-length-first : (r : Record) (rs : List Record) → scriptLength (r ∷ rs) ≡ recordLength r + scriptLength rs
+unfolding scriptLength
+script-length-first r rs = refl
+
 pub script-length-append : (rs ss : List Record) → scriptLength (rs ++ ss) ≡ scriptLength rs + scriptLength ss
 unfolding scriptLength
 script-length-append [] ss = omega arith
 script-length-append (r ∷ rs) ss = omega (arith, script-length-append rs ss)
 
-pub encoded-record-length : (r : Record) → length (encodeRecord r) ≡ recordLength r
+encoded-record-length : (r : Record) → length (encodeRecord r) ≡ recordLength r
 unfolding encodeRecord
 encoded-record-length (frame bytes) = omega arith
 encoded-record-length (wait n) = refl
@@ -53,11 +84,6 @@ pub encoded-length : (rs : List Record) → length (encode rs) ≡ scriptLength 
 unfolding encode scriptLength
 encoded-length [] = refl
 encoded-length (r ∷ rs) = omega (arith, length-append (encodeRecord r) (encode rs), encoded-record-length r, encoded-length rs)
-
--- "at least five bytes": a mark, a length and a byte
-pub record-least : (r : Record) → Fits r → 5 ≤ recordLength r
-record-least (frame bytes) f = omega (arith, f .0)
-record-least (wait n) f = omega arith
 
 pub frames-bound : (rs : List Record) → AllFit rs → framesIn rs * 5 ≤ scriptLength rs
 unfolding framesIn scriptLength
@@ -70,10 +96,3 @@ unfolding outputLength scriptLength
 output-bound [] = omega arith
 output-bound (frame bytes ∷ rs) = omega (arith, output-bound rs)
 output-bound (wait n ∷ rs) = omega (arith, output-bound rs)
-
--- a wait has six bytes and at most 4,294,967,295 microseconds
-pub microseconds-bound : (rs : List Record) → AllFit rs → microsecondsIn rs * 6 ≤ scriptLength rs * 4294967295
-unfolding microsecondsIn scriptLength
-microseconds-bound [] a = omega arith
-microseconds-bound (frame bytes ∷ rs) a = omega (arith, microseconds-bound rs (a .1))
-microseconds-bound (wait n ∷ rs) a = omega (arith, a .0, microseconds-bound rs (a .1))

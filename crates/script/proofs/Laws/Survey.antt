@@ -1,7 +1,7 @@
 -- The laws of `surveyOf`: what is left to look through, after some records were counted. Two results of the call are equal.
 -- Assumes nothing.
 use mathlib.Core.Path.{_≡_, refl, sym, ap, _∙_}
-use mathlib.Core.Bool.{true, false}
+use mathlib.Core.Bool.{true}
 use mathlib.Core.List.{List, []}
 use Prim.Native.Nat.{ℕ, _+_, _*_, _≤_, _<_}
 use native.Mathlib.Nat.{zero-add, add-zero, add-assoc}
@@ -12,7 +12,8 @@ use borrow.Author.Tests.{ltb-true, ltb-false, lt-ltb, le-ltb}
 use Rattle.common.proofs.Laws.Choice.{cases, yes, no}
 use Rattle.script.specs.Record.{Record, frame, wait, recordLength, framesIn, microsecondsIn, outputLength}
 use Rattle.common.specs.Limits.{longestScript}
-use Rattle.script.specs.Decode.{Fault, unknownMark, wrongLength, cutShort, faultNumber, Decoded, records, badAt, followed, decode}
+use Rattle.common.specs.Refusals.{scriptTooLong}
+use Rattle.script.specs.Decode.{Fault, unknownMark, wrongLength, cutShort, faultNumber, Decoded, records, badAt, recordsIn, followed, decode, recordsOf}
 use Rattle.script.specs.Survey.{countedSurvey, refusedSurvey, surveyed, surveyOf}
 use Rattle.script.specs.declared.survey.Survey.{Survey}
 use Rattle.script.proofs.Laws.Answers.{Stands, FrameTold, EndTold, RefusalTold}
@@ -23,7 +24,7 @@ fault-numbered unknownMark = omega arith
 fault-numbered wrongLength = omega arith
 fault-numbered cutShort = omega arith
 
-pub survey-long : (script : List ℕ) → longestScript < length script → surveyOf script ≡ refusedSurvey 11 0
+pub survey-long : (script : List ℕ) → longestScript < length script → surveyOf script ≡ refusedSurvey scriptTooLong 0
 unfolding surveyOf
 survey-long script long = sym (yes _ (lt-ltb longestScript (length script) long) refl)
 
@@ -135,5 +136,7 @@ survey-whole script e = cases (ltb longestScript (length script)) too-long (λ t
     by-decoded short (badAt fault offset) q =
         let none : faultNumber fault ≡ 0 = rw (survey-short script short, q) at e in absurd (omega (arith, fault-numbered fault))
 
-pub survey-determined : (script : List ℕ) (a b : Survey) → a ≡ surveyOf script → b ≡ surveyOf script → a ≡ b
-survey-determined script a b e f = e ∙ sym f
+pub survey-output : (script : List ℕ) → surveyOf script .number ≡ 0 → outputLength (recordsOf script) ≡ surveyOf script .output
+survey-output script e =
+    let w = survey-whole script e in
+    ap (λ (d : Decoded). outputLength (recordsIn d)) (w .decoded) ∙ sym (ap (λ (s : Survey). s .output) (w .counts))

@@ -1,19 +1,16 @@
 -- Every row of the soundness table holds: one test computed over the table, and a lemma that turns it into each row's facts.
 -- Assumes nothing.
 use mathlib.Core.Path.{_≡_, refl}
-use mathlib.Core.Bool.{Bool, true, false, _&&_, not}
+use mathlib.Core.Bool.{Bool, true, _&&_, not}
 use mathlib.Core.List.{List, [], _∷_}
 use borrow.Author.Tests.{not-true}
+use Rattle.common.specs.Lists.{Each}
 use Rattle.common.proofs.Laws.Booleans.{and-l, and-r}
 use Rattle.state.specs.declared.State.{State}
 use Rattle.chip.specs.Chip.{chipOf, isKnown}
 use Rattle.state.specs.Protection.{firstProtected}
 use Rattle.state.specs.Soundness.{isSound}
 use Rattle.state.specs.SoundRows.{onlyFails, allClauses, Row, RowHolds, rows, reached}
-
-abbrev pub Each : {A : Type 0} → (A → Type 0) → List A → Type 0
-Each P [] = Unit {0}
-Each P (x ∷ xs) = P x × Each P xs
 
 passes : Row → Bool
 passes r = isSound (r .keeps) && not (isSound (r .breaks)) && onlyFails (r .clause) (allClauses (r .breaks))

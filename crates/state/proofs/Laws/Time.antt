@@ -1,16 +1,16 @@
 -- Time keeps a sound state sound.
 -- Assumes nothing.
 use mathlib.Core.Path.{_≡_, refl, sym, _∙_}
-use mathlib.Core.Bool.{Bool, true, false, cond, false≢true, true≢false}
-use Prim.Native.Nat.{ℕ, _+_, _-_, _≤_, _<_}
+use mathlib.Core.Bool.{true, false, false≢true, true≢false}
+use Prim.Native.Nat.{ℕ, _-_, _<_}
 use native.Mathlib.Omega.{arith}
 use lib.Dec.{ltb, eqb}
-use borrow.Author.Tests.{ltb-true, ltb-false, eqb-true, eqb-false}
+use borrow.Author.Tests.{ltb-true, eqb-false}
 use Rattle.common.proofs.Laws.Choice.{cond-elim}
 use Rattle.state.specs.declared.State.{State}
-use Rattle.state.specs.State.{dataOf, withLeft, withWel, withAai}
+use Rattle.state.specs.State.{withLeft, withWel, withAai}
 use Rattle.state.specs.Protection.{firstProtected}
-use Rattle.state.specs.Soundness.{Busy, Running, Sound}
+use Rattle.state.specs.Soundness.{Sound}
 use Rattle.state.specs.Time.{cycleEnded, timePassed}
 
 module _ (s : State) (h : Sound s) (b : 0 < s .left) where
@@ -18,24 +18,24 @@ module _ (s : State) (h : Sound s) (b : 0 < s .left) where
   goes-on : (n : ℕ) → n < s .left → Sound (withLeft s (s .left - n))
   unfolding firstProtected
   goes-on n l = record {
-    known = h .known;
-    level = h .level;
-    timed = omega (arith, h .timed);
-    busy = λ _. let k = h .busy b in record { enabled = k .enabled; disarmed = k .disarmed; awake = k .awake };
-    apart = h .apart;
-    latched = h .latched;
-    topped = h .topped;
-    sleeper = h .sleeper;
-    worded = h .worded;
-    rests = h .rests;
-    runs = λ a. let r = h .runs a in record {
+    chip-known = h .chip-known;
+    bp-le-7 = h .bp-le-7;
+    left-le-chip-time = omega (arith, h .left-le-chip-time);
+    while-busy = λ _. let k = h .while-busy b in record { enabled = k .enabled; disarmed = k .disarmed; awake = k .awake };
+    armed-awake = h .armed-awake;
+    armed-enabled = h .armed-enabled;
+    tb-had = h .tb-had;
+    power-down-had = h .power-down-had;
+    aai-had = h .aai-had;
+    next-0-without-aai = h .next-0-without-aai;
+    in-aai = λ a. let r = h .in-aai a in record {
       enabled = r .enabled;
       disarmed = r .disarmed;
-      short = omega (arith, r .short);
-      even = r .even;
-      two = r .two;
-      upto = r .upto;
-      goes = λ z. absurd (omega arith);
+      left-le-7 = omega (arith, r .left-le-7);
+      next-even = r .next-even;
+      next-ge-2 = r .next-ge-2;
+      next-le-first = r .next-le-first;
+      next-lt-first = λ z. absurd (omega arith);
     };
   }
 
@@ -43,46 +43,46 @@ module _ (s : State) (h : Sound s) (b : 0 < s .left) where
   waits : s .aai ≡ true → s .next < firstProtected s → Sound (withLeft s 0)
   unfolding firstProtected
   waits a l = record {
-    known = h .known;
-    level = h .level;
-    timed = omega arith;
-    busy = λ z. absurd (omega arith);
-    apart = h .apart;
-    latched = h .latched;
-    topped = h .topped;
-    sleeper = h .sleeper;
-    worded = h .worded;
-    rests = h .rests;
-    runs = λ _. let r = h .runs a in record {
+    chip-known = h .chip-known;
+    bp-le-7 = h .bp-le-7;
+    left-le-chip-time = omega arith;
+    while-busy = λ z. absurd (omega arith);
+    armed-awake = h .armed-awake;
+    armed-enabled = h .armed-enabled;
+    tb-had = h .tb-had;
+    power-down-had = h .power-down-had;
+    aai-had = h .aai-had;
+    next-0-without-aai = h .next-0-without-aai;
+    in-aai = λ _. let r = h .in-aai a in record {
       enabled = r .enabled;
       disarmed = r .disarmed;
-      short = omega arith;
-      even = r .even;
-      two = r .two;
-      upto = r .upto;
-      goes = λ _. l;
+      left-le-7 = omega arith;
+      next-even = r .next-even;
+      next-ge-2 = r .next-ge-2;
+      next-le-first = r .next-le-first;
+      next-lt-first = λ _. l;
     };
   }
 
   -- it ends, and WEL falls
   ends : (t : State) → t ≡ withWel (withAai (withLeft s 0) false 0) false → Sound t
   ends t e = rw e record {
-    known = h .known;
-    level = h .level;
-    timed = omega arith;
-    busy = λ z. absurd (omega arith);
-    apart = h .apart;
-    latched = λ _ a. absurd (true≢false (sym a ∙ h .busy b .disarmed));
-    topped = h .topped;
-    sleeper = h .sleeper;
-    worded = λ a. absurd (false≢true a);
-    rests = λ _. refl;
-    runs = λ a. absurd (false≢true a);
+    chip-known = h .chip-known;
+    bp-le-7 = h .bp-le-7;
+    left-le-chip-time = omega arith;
+    while-busy = λ z. absurd (omega arith);
+    armed-awake = h .armed-awake;
+    armed-enabled = λ _ a. absurd (true≢false (sym a ∙ h .while-busy b .disarmed));
+    tb-had = h .tb-had;
+    power-down-had = h .power-down-had;
+    aai-had = λ a. absurd (false≢true a);
+    next-0-without-aai = λ _. refl;
+    in-aai = λ a. absurd (false≢true a);
   }
 
   -- without AAI there is no next address to clear
   no-aai : s .aai ≡ false → withWel (withLeft s 0) false ≡ withWel (withAai (withLeft s 0) false 0) false
-  no-aai a = rw (a, h .rests a) refl
+  no-aai a = rw (a, h .next-0-without-aai a) refl
 
   ended-sound : Sound (cycleEnded s)
   unfolding cycleEnded

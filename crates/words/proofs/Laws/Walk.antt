@@ -6,6 +6,7 @@ use mathlib.Core.List.{_++_}
 use Prim.Native.Nat.{ℕ, suc, _+_, _-_, _*_, _/_, _%_, _≤_, _<_}
 use native.Mathlib.Omega.{arith}
 use mir.Val.{boolByte}
+use Rattle.common.specs.Limits.{longestWanted}
 use Rattle.script.specs.Record.{encode}
 use Rattle.script.proofs.Laws.Records.{encode-append}
 use Rattle.common.proofs.Laws.Flags.{flag-is}
@@ -32,7 +33,7 @@ pub record Counting (d : ℕ → Bool) (end address words runs : ℕ) (running :
   pub runs-left : runs + runCount d running (wordsLeft end address) address ≡ allRuns
   pub few : allWords + allRuns ≤ 2050
 
-pub counting-start : (d : ℕ → Bool) (start n : ℕ) → n ≤ 4096
+pub counting-start : (d : ℕ → Bool) (start n : ℕ) → n ≤ longestWanted
     → Counting d (start + n) (start / 2 * 2) 0 0 false (wordCount d (wordsIn start n) (start / 2 * 2)) (runCount d false (wordsIn start n) (start / 2 * 2))
 counting-start d start n h =
     let e : wordsLeft (start + n) (start / 2 * 2) ≡ wordsIn start n = omega arith in

@@ -2,20 +2,21 @@
 -- Assumes nothing.
 use mathlib.Core.Path.{_≡_, refl, ap, _∙_}
 use mathlib.Core.Bool.{Bool, true, false, not, _&&_}
-use mathlib.Core.List.{[]}
+use mathlib.Core.List.{List, [], _∷_, _++_, append-nil}
 use mathlib.Core.Logic.{⊎-elim}
 use Prim.Native.Nat.{ℕ, zero, suc, _+_, _*_, _≤_, _<_}
-use native.Mathlib.Nat.{add-zero}
 use native.Mathlib.Omega.{arith}
 use lib.ListN.{length}
 use Rattle.common.proofs.Laws.Choice.{cases}
 use Rattle.common.proofs.Laws.Booleans.{or-none-l, or-none-r}
 use Rattle.common.proofs.Laws.Lists.{split}
-use Rattle.script.specs.Record.{AllFit, scriptLength, framesIn, microsecondsIn}
-use Rattle.script.proofs.Laws.Records.{script-length-append, frames-append, microseconds-append, all-fit-append}
+use Rattle.script.specs.Record.{Record, frame, wait, AllFit, scriptLength}
+use Rattle.script.proofs.Laws.Records.{all-fit-append}
+use Rattle.script.proofs.Laws.Measure.{Counts, counts-none, counts-frame, counts-wait, counts-as, measure-is}
 use Rattle.common.specs.Bits.{bit}
+use Rattle.common.specs.Numbers.{addressBytes}
 use Rattle.script.specs.Measure.{measureOf}
-use Rattle.words.specs.Words.{wordChanges, wordsStep}
+use Rattle.words.specs.Words.{wordBytes, wordChanges, wordsStep}
 use Rattle.words.specs.Walk.{wordRecords, words, wordCount, runCount}
 use Rattle.words.proofs.Laws.Runs.{words-are-runs}
 
@@ -23,28 +24,14 @@ use Rattle.words.proofs.Laws.Runs.{words-are-runs}
 
 module _ (w : ℕ → ℕ) where
   -- the frame that closes a run is counted with the word that begins it
-  word-length : (running changes : Bool) (address : ℕ)
-      → scriptLength (wordRecords w running changes address) + bit changes 5 ≡ 13 * (bit changes 1 + bit (changes && not running) 1) + bit running 5
-  unfolding wordRecords scriptLength
-  word-length false true address = refl
-  word-length true true address = refl
-  word-length true false address = refl
-  word-length false false address = refl
-
-  word-frames : (running changes : Bool) (address : ℕ)
-      → framesIn (wordRecords w running changes address) + bit changes 1 ≡ bit changes 1 + 2 * bit (changes && not running) 1 + bit running 1
-  unfolding wordRecords framesIn
-  word-frames false true address = refl
-  word-frames true true address = refl
-  word-frames true false address = refl
-  word-frames false false address = refl
-
-  word-microseconds : (running changes : Bool) (address : ℕ) → microsecondsIn (wordRecords w running changes address) ≡ 7 * bit changes 1
-  unfolding wordRecords microsecondsIn
-  word-microseconds false true address = refl
-  word-microseconds true true address = refl
-  word-microseconds true false address = refl
-  word-microseconds false false address = refl
+  word-counts : (running changes : Bool) (address l f : ℕ) {rs : List Record} {m : ℕ} → Counts rs (l + bit changes 5) (f + bit changes 1) m
+      → Counts (wordRecords w running changes address ++ rs) (13 * (bit changes 1 + bit (changes && not running) 1) + l + bit running 5)
+      (bit changes 1 + 2 * bit (changes && not running) 1 + f + bit running 1) (7 * bit changes 1 + m)
+  unfolding wordRecords
+  word-counts false true address l f c = counts-as (counts-frame (counts-frame (counts-wait c 7) _) _) (omega arith) (omega arith) refl
+  word-counts true true address l f c = counts-as (counts-frame (counts-wait c 7) _) (omega arith) (omega arith) refl
+  word-counts true false address l f c = counts-as (counts-frame c _) (omega arith) (omega arith) (omega arith)
+  word-counts false false address l f c = counts-as c (omega arith) (omega arith) (omega arith)
 
   word-fits : (running changes : Bool) (address : ℕ) → AllFit (wordRecords w running changes address)
   unfolding wordRecords
@@ -55,46 +42,48 @@ module _ (w : ℕ → ℕ) where
 
 -- ---- all words
 
+-- what comes at a word, by whether a run goes on and whether the word changes; and behind the last
+module _ (w : ℕ → ℕ) (d : ℕ → Bool) (address : ℕ) where
+  pub words-ended : words w d false 0 address ≡ []
+  unfolding words wordRecords
+  words-ended = refl
+
+  pub words-closed : words w d true 0 address ≡ frame (0x04 ∷ []) ∷ []
+  unfolding words wordRecords
+  words-closed = refl
+
+  module _ (n : ℕ) where
+    pub word-begins : wordChanges d address ≡ true
+        → words w d false (suc n) address
+        ≡ frame (0x06 ∷ []) ∷ frame (0xad ∷ (addressBytes address ++ wordBytes w address)) ∷ wait 7 ∷ words w d true n (address + 2)
+    unfolding words wordRecords
+    word-begins e = rw e refl
+
+    pub word-goes-on : wordChanges d address ≡ true
+        → words w d true (suc n) address ≡ frame (0xad ∷ wordBytes w address) ∷ wait 7 ∷ words w d true n (address + 2)
+    unfolding words wordRecords
+    word-goes-on e = rw e refl
+
+    pub word-ends : wordChanges d address ≡ false → words w d true (suc n) address ≡ frame (0x04 ∷ []) ∷ words w d false n (address + 2)
+    unfolding words wordRecords
+    word-ends e = rw e refl
+
+    pub word-skipped : wordChanges d address ≡ false → words w d false (suc n) address ≡ words w d false n (address + 2)
+    unfolding words wordRecords
+    word-skipped e = rw e refl
+
 module _ (w : ℕ → ℕ) (d : ℕ → Bool) where
-  pub words-length : (running : Bool) (n address : ℕ)
-      → scriptLength (words w d running n address) ≡ 13 * (wordCount d n address + runCount d running n address) + bit running 5
+  words-counts : (running : Bool) (n address : ℕ)
+      → Counts (words w d running n address) (13 * (wordCount d n address + runCount d running n address) + bit running 5)
+      (wordCount d n address + 2 * runCount d running n address + bit running 1) (7 * wordCount d n address)
   unfolding words wordCount runCount
-  words-length running zero address = omega (arith, word-length w running false address)
-  words-length running (suc n) address =
+  words-counts running zero address = rw (append-nil (wordRecords w running false address)) at (word-counts w running false address 0 0 counts-none)
+  words-counts running (suc n) address =
       let c : Bool = wordChanges d address in
-      omega (
-        arith,
-        script-length-append (wordRecords w running c address) (words w d c n (address + 2)),
-        word-length w running c address,
-        words-length c n (address + 2),
-      )
+      counts-as (word-counts w running c address (13 * (wordCount d n (address + 2) + runCount d c n (address + 2))) (wordCount d n (address + 2) + 2 * runCount d c n (address + 2)) (words-counts c n (address + 2)))
+      (omega arith) (omega arith) (omega arith)
 
-  pub words-frames : (running : Bool) (n address : ℕ)
-      → framesIn (words w d running n address) ≡ wordCount d n address + 2 * runCount d running n address + bit running 1
-  unfolding words wordCount runCount
-  words-frames running zero address = omega (arith, word-frames w running false address)
-  words-frames running (suc n) address =
-      let c : Bool = wordChanges d address in
-      omega (
-        arith,
-        frames-append (wordRecords w running c address) (words w d c n (address + 2)),
-        word-frames w running c address,
-        words-frames c n (address + 2),
-      )
-
-  pub words-microseconds : (running : Bool) (n address : ℕ) → microsecondsIn (words w d running n address) ≡ 7 * wordCount d n address
-  unfolding words wordCount
-  words-microseconds running zero address = word-microseconds w running false address
-  words-microseconds running (suc n) address =
-      let c : Bool = wordChanges d address in
-      omega (
-        arith,
-        microseconds-append (wordRecords w running c address) (words w d c n (address + 2)),
-        word-microseconds w running c address,
-        words-microseconds c n (address + 2),
-      )
-
-  pub words-fit : (running : Bool) (n address : ℕ) → AllFit (words w d running n address)
+  words-fit : (running : Bool) (n address : ℕ) → AllFit (words w d running n address)
   unfolding words
   words-fit running zero address = word-fits w running false address
   words-fit running (suc n) address =
@@ -102,13 +91,13 @@ module _ (w : ℕ → ℕ) (d : ℕ → Bool) where
       (word-fits w running (wordChanges d address) address) (words-fit (wordChanges d address) n (address + 2))
 
   -- nothing changes
-  pub words-none : (n address : ℕ) → ((k : ℕ) → d k ≡ false) → words w d false n address ≡ []
+  words-none : (n address : ℕ) → ((k : ℕ) → d k ≡ false) → words w d false n address ≡ []
   unfolding words wordRecords
   words-none zero address h = refl
   words-none (suc n) address h = rw (h address, h (address + 1)) (words-none n (address + 2) h)
 
   -- and where there are no records, no byte of the words changes
-  pub words-unchanged : (n address : ℕ) → words w d false n address ≡ [] → (k : ℕ) → address ≤ k → k < address + 2 * n → d k ≡ false
+  words-unchanged : (n address : ℕ) → words w d false n address ≡ [] → (k : ℕ) → address ≤ k → k < address + 2 * n → d k ≡ false
   unfolding words wordRecords
   words-unchanged zero address e k h l = absurd (omega arith)
   words-unchanged (suc n) address e k h l =
@@ -135,21 +124,22 @@ counts-le d running (suc n) address =
 -- ---- step 2
 
 module _ (w : ℕ → ℕ) (d : ℕ → Bool) (n address : ℕ) where
+  pub words-step-counts : Counts (wordsStep w d n address) (13 * (wordCount d n address + runCount d false n address))
+      (wordCount d n address + 2 * runCount d false n address) (7 * wordCount d n address)
+  words-step-counts = rw (← words-are-runs w d n address) (counts-as (words-counts w d false n address) (omega arith) (omega arith) refl)
+
   pub words-step-measure : measureOf (wordsStep w d n address) ≡ record {
     length = 13 * (wordCount d n address + runCount d false n address);
     frames = wordCount d n address + 2 * runCount d false n address;
     microseconds = 7 * wordCount d n address;
   }
-  unfolding measureOf
-  words-step-measure =
-      rw (← words-are-runs w d n address, words-length w d false n address, words-frames w d false n address, words-microseconds w d false n address)
-      (simp add-zero)
+  words-step-measure = measure-is words-step-counts
 
   pub words-step-fits : AllFit (wordsStep w d n address)
   words-step-fits = rw (← words-are-runs w d n address) (words-fit w d false n address)
 
   pub words-step-le : scriptLength (wordsStep w d n address) ≤ 13 * n + 13
-  words-step-le = rw (← words-are-runs w d n address) (omega (arith, words-length w d false n address, counts-le d false n address))
+  words-step-le = omega (arith, words-step-counts, counts-le d false n address)
 
   pub words-step-none : ((k : ℕ) → d k ≡ false) → wordsStep w d n address ≡ []
   words-step-none h = rw (← words-are-runs w d n address) (words-none w d n address h)

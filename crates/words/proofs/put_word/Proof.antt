@@ -6,6 +6,7 @@ use borrow.Author.Needs.{needs}
 use Rattle.script.specs.Record.{encode}
 use Rattle.region.specs.Region.{wantedAt}
 use Rattle.common.proofs.Laws.Buffer.{Whole, left-start, put-none}
+use Rattle.script.proofs.Laws.Records.{encode-none}
 use Rattle.script.proofs.Laws.Writer.{record-room, record-turn, records-done}
 use Rattle.words.specs.Walk.{wordRecords}
 use Rattle.words.proofs.put_word.Statement.{statement}
@@ -51,8 +52,8 @@ returns-3 c =
     (records-done (record-turn _ _ (closing (c .before .before .before .before .before)) (c .before .before .put-frame .ensures)))
 
 returns-4 : tie.Need-returns-4
-unfolding wordRecords encode
-returns-4 c = rw (c .if3 .left, c .before .if1 .left) (put-none _ _)
+unfolding wordRecords
+returns-4 c = rw (c .if3 .left, c .before .if1 .left, encode-none) (put-none _ _)
 
 pub put-word-spec : {M : Type 1} → statement M
 put-word-spec =

@@ -1,10 +1,8 @@
 -- `command::rows::erase_chip` meets its contract: one byte, then as every erase.
 -- Assumes nothing.
 use mathlib.Core.Path.{refl}
-use native.Mathlib.Omega.{arith}
 use borrow.Author.Tests.{eq-eqb, ne-eqb}
 use Rattle.common.proofs.Laws.Choice.{yes, no}
-use Rattle.chip.proofs.Laws.Chip.{Regular, regular}
 use borrow.Author.Needs.{needs}
 use Rattle.command.proofs.rows.erase_chip.Statement.{statement}
 use Rattle.command.proofs.rows.erase_chip.Tie as tie

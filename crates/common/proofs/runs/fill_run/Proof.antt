@@ -1,7 +1,7 @@
 -- `common::runs::fill_run` meets its contract: below k the run is filled.
 -- Assumes nothing.
 use mathlib.Core.Path.{_≡_, refl}
-use Prim.Native.Nat.{ℕ, _+_, _-_, _≤_}
+use Prim.Native.Nat.{_-_, _≤_}
 use native.Mathlib.Omega.{arith}
 use lib.ListN.{length, length-set}
 use Rattle.common.specs.Lists.{mapi, upTo, onRun}

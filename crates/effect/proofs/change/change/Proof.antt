@@ -1,10 +1,8 @@
--- `frame::change::change` meets its contract: each arm's run is its effect, address by address.
+-- `effect::change::change` meets its contract: each arm's run is its effect, address by address.
 -- Assumes nothing.
-use mathlib.Core.Path.{refl, sym, _∙_}
+use mathlib.Core.Path.{sym, _∙_}
 use native.Mathlib.Omega.{arith}
-use Rattle.common.proofs.Laws.Lists.{mapi-id}
-use Rattle.common.proofs.Laws.Places.{run-within}
-use Rattle.effect.specs.Effect.{touches, struck, changed}
+use Rattle.effect.proofs.Laws.Straight.{keep-array, fill-in-a-run, program-in-a-run}
 use borrow.Author.Needs.{needs}
 use Rattle.effect.proofs.change.change.Statement.{statement}
 use Rattle.effect.proofs.change.change.Tie as tie
@@ -54,28 +52,25 @@ change-each-requires : tie.Need-change-each-requires
 change-each-requires c κs = search needs
 
 returns : tie.Need-returns
-unfolding changed touches struck
-returns c = rw (c .enum-told .given .1) (sym (mapi-id _ _ (λ k b. refl)))
+returns c = rw (c .enum-told .given .1) (sym (keep-array _ _))
 
 same-length : tie.Need-same-length
 same-length c = search needs
 
 returns-2 : tie.Need-returns-2
-unfolding changed touches struck
 returns-2 c =
     let a = c .before .before .before .before .before .before .before .before .before .args in
     let e = c .before .before .before .before .before .e .given in
-    rw (e .1) (c .before .before .fill-run .ensures ∙ run-within (e .0 .0) (e .0 .1 .0) _ (a .array .now))
+    rw (e .1) (c .before .before .fill-run .ensures ∙ fill-in-a-run (e .0 .0) (e .0 .1 .0) (a .input .now) (a .array .now))
 
 same-length-2 : tie.Need-same-length-2
 same-length-2 c = search needs
 
 returns-3 : tie.Need-returns-3
-unfolding changed touches struck
 returns-3 c =
     let a = c .before .before .before .before .before .before .before .before .before .args in
     let e = c .before .before .before .before .before .e2 .given in
-    rw (e .1) (c .before .before .and-run .ensures ∙ run-within (e .0 .0) (e .0 .1 .0) _ (a .array .now))
+    rw (e .1) (c .before .before .and-run .ensures ∙ program-in-a-run (e .0 .0) (e .0 .1 .0) (a .input .now) (a .array .now) (e .0 .1 .1 .0))
 
 same-length-3 : tie.Need-same-length-3
 same-length-3 c = search needs

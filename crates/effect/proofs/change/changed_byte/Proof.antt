@@ -1,4 +1,4 @@
--- `frame::change::changed_byte` meets its contract: touched, or as it was.
+-- `effect::change::changed_byte` meets its contract: touched, or as it was.
 -- Assumes nothing.
 use mathlib.Core.Path.{refl}
 use Rattle.common.proofs.Laws.Choice.{yes, no}

@@ -1,4 +1,4 @@
--- `frame::change::cut_byte` meets its contract: touched and mixed, or as it was.
+-- `effect::change::cut_byte` meets its contract: touched and mixed, or as it was.
 -- Assumes nothing.
 use mathlib.Core.Path.{refl}
 use Rattle.common.proofs.Laws.Choice.{yes, no}

@@ -1,13 +1,15 @@
--- `frame::change::cut_change` meets its contract: below k the array is cut, from k on it is as it was, and `place` counts the touched addresses below k.
+-- `effect::change::cut_change` meets its contract: below k the array is cut, from k on it is as it was, and `place` counts the touched addresses below k.
 -- Assumes nothing.
 use mathlib.Core.Path.{_≡_, refl, sym, ap, _∙_}
-use mathlib.Core.Bool.{cond}
+use mathlib.Core.Bool.{Bool, cond}
 use mathlib.Core.List.{List}
-use Prim.Native.Nat.{ℕ, _+_, _-_, _<_, _≤_}
+use Prim.Native.Nat.{ℕ, _-_, _<_, _≤_}
 use native.Mathlib.Omega.{arith}
 use lib.ListN.{length, getD, length-set}
+use mir.Val.{boolByte}
 use borrow.Author.Needs.{needs}
 use Rattle.common.specs.Lists.{mapi, upTo}
+use Rattle.common.proofs.Laws.Flags.{flag-is, bit-le}
 use Rattle.common.proofs.Laws.Lists.{loop-start, loop-turn, loop-end}
 use Rattle.common.proofs.Laws.Places.{count-turn}
 use Rattle.effect.specs.declared.Effect.{Effect}
@@ -69,11 +71,11 @@ slice-write-array c = search needs
 is-touched-requires : tie.Need-is-touched-requires Inv-loop μ-loop
 is-touched-requires c κs = search needs
 
-one-if-requires : tie.Need-one-if-requires Inv-loop μ-loop
-one-if-requires c κs = search needs
+cast-place : tie.Need-cast-place Inv-loop μ-loop
+cast-place c = search needs
 
 add-place : tie.Need-add-place Inv-loop μ-loop
-add-place c = search needs
+add-place c = rw (flag-is (c .is-touched .result)) (omega (arith, bit-le (c .is-touched .result) 1))
 
 add-k : tie.Need-add-k Inv-loop μ-loop
 add-k c = search needs
@@ -83,22 +85,22 @@ loop-less c = search needs
 
 loop-again : tie.Need-loop-again Inv-loop μ-loop
 loop-again c =
-    let p = c .before .before .before .before .before .before in
+    let p = c .before .before .before .before .before in
     let a = p .before .before .before .before .before in
     let i = p .loop .inv in
     let k = p .loop .k in
     let x = getD (p .loop .array) k 0 in
-    let e : c .before .before .cut-byte .result ≡ new a k x =
-    rw (c .before .before .before .byte-at .ensures, cut-at (a .args .e) (a .args .input .now) (a .args .mask .now) k x (p .loop .place) (i .7))
-    at (c .before .before .cut-byte .ensures) in
-    let t : c .one-if .result ≡ cond (touches (a .args .e) k) 1 0 = rw (c .before .is-touched .ensures) at (c .one-if .ensures .0) in (
+    let e : c .before .cut-byte .result ≡ new a k x =
+    rw (c .before .before .byte-at .ensures, cut-at (a .args .e) (a .args .input .now) (a .args .mask .now) k x (p .loop .place) (i .7))
+    at (c .before .cut-byte .ensures) in
+    let t : boolByte (c .is-touched .result) ≡ cond (touches (a .args .e) k) 1 0 = flag-is (c .is-touched .result) ∙ ap (λ (b : Bool). cond b 1 0) (c .is-touched .ensures) in (
       omega arith,
       omega arith,
       i .2,
       i .3,
       i .4,
       simp length-set (i .5),
-      omega (arith, c .one-if .ensures .1),
+      omega (arith, t, bit-le (touches (a .args .e) k) 1),
       rw (count-turn (touches (a .args .e)) k, t, i .7) refl,
       rw e (loop-turn (new a) (a .args .array .now) (p .loop .array) k (omega arith) (i .8)),
     )
@@ -126,7 +128,7 @@ cut-change-spec =
     cut-byte-requires
     slice-write-array
     is-touched-requires
-    one-if-requires
+    cast-place
     add-place
     add-k
     loop-less

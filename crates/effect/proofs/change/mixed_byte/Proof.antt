@@ -1,4 +1,4 @@
--- `frame::change::mixed_byte` meets its contract: it is the definition's expression.
+-- `effect::change::mixed_byte` meets its contract: it is the definition's expression.
 -- Assumes nothing.
 use mathlib.Core.Path.{refl}
 use Rattle.effect.specs.Cut.{mixed}

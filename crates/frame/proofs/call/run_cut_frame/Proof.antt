@@ -1,6 +1,6 @@
 -- `frame::call::run_cut_frame` meets its contract: refused, nothing changes; accepted, the command's columns with the array cut, and power-up.
 -- Assumes nothing.
-use mathlib.Core.Path.{_≡_, refl, sym, ap, _∙_}
+use mathlib.Core.Path.{_≡_, sym, _∙_}
 use Prim.Native.Nat.{ℕ}
 use native.Mathlib.Omega.{arith}
 use lib.ListN.{length}
@@ -10,10 +10,10 @@ use Rattle.command.specs.Command.{commandOf}
 use Rattle.command.specs.Fits.{Fits}
 use Rattle.command.proofs.Laws.Fits.{fits, next-low}
 use Rattle.effect.specs.Effect.{spanOf, maskLength}
-use Rattle.frame.specs.Effect.{effectOf}
-use Rattle.frame.specs.Call.{frameNumber, effectAt, cutNumber}
+use Rattle.frame.specs.Call.{frameNumber, effectAt}
 use Rattle.frame.proofs.Laws.Accepted.{Accepted, number-accepted, cut-number-refused, cut-number-masked, cut-number-unmasked}
-use Rattle.frame.proofs.Laws.Inside.{Inside, effect-inside}
+use Rattle.frame.proofs.Laws.Inside.{effect-inside}
+use Rattle.effect.proofs.Laws.Effect.{Inside}
 use Rattle.frame.proofs.Laws.Call.{cut-refused, cut-accepted}
 use borrow.Author.Needs.{needs}
 use Rattle.frame.proofs.call.run_cut_frame.Statement.{statement}
@@ -82,7 +82,7 @@ cut-change-requires c κs =
     let a = p .before .before .before .before .before .before .args in
     let i : Inside (spanOf (c .before .before .before .before .before .before .before .before .effect-of .result)) (dataOf (a .s) .size) =
     rw (c .before .before .before .before .before .before .before .before .effect-of .ensures, c .before .before .before .before .before .before .before .before .before .command-of .ensures) (effect-inside (a .s) (commandOf (a .s) (a .wp) (a .input .now)) (fit p)) in
-    (i .order, omega (arith, i .within, t .sized), omega (arith, t .sized, regular (a .s .chip) .small))
+    (i .order, omega (arith, i .within, t .sized), omega (arith, t .sized, regular (a .s .chip) .size-le-mebibyte))
 
 state-after-requires : tie.Need-state-after-requires
 state-after-requires c κs = rw (c .before .before .before .before .before .before .before .before .before .before .before .before .command-of .ensures) (fit (c .before .before .before .before .before .before .before .before .before .before .before .before .before))

@@ -1,23 +1,21 @@
 -- `frame::call::run_frame` meets its contract: refused, nothing changes; accepted, the three columns of the command.
 -- Assumes nothing.
-use mathlib.Core.Path.{_≡_, refl, sym, ap, _∙_}
+use mathlib.Core.Path.{_≡_, sym, _∙_}
 use Prim.Native.Nat.{ℕ}
 use native.Mathlib.Omega.{arith}
 use lib.ListN.{length}
-use Rattle.common.specs.Lists.{tab}
 use Rattle.state.specs.State.{dataOf}
 use Rattle.chip.proofs.Laws.Chip.{regular}
 use Rattle.command.specs.Command.{commandOf}
 use Rattle.command.specs.Fits.{Fits}
-use Rattle.output.specs.Output.{memory, shownAt}
 use Rattle.command.proofs.Laws.Fits.{fits, next-low}
 use Rattle.command.proofs.Laws.Carries.{carries}
 use Rattle.effect.specs.Effect.{spanOf, Supplied}
-use Rattle.frame.specs.Effect.{effectOf}
 use Rattle.frame.specs.Call.{frameNumber}
 use Rattle.frame.proofs.Laws.Accepted.{Accepted, number-accepted}
 use Rattle.frame.proofs.Laws.Supplied.{effect-supplied}
-use Rattle.frame.proofs.Laws.Inside.{Inside, effect-inside}
+use Rattle.frame.proofs.Laws.Inside.{effect-inside}
+use Rattle.effect.proofs.Laws.Effect.{Inside}
 use Rattle.frame.proofs.Laws.Call.{frame-refused, frame-accepted}
 use borrow.Author.Needs.{needs}
 use Rattle.frame.proofs.call.run_frame.Statement.{statement}
@@ -70,7 +68,7 @@ change-requires c κs =
     let d : Supplied (c .effect-of .result) (a .input .now) =
     rw (c .effect-of .ensures, c .before .before .before .before .before .before .before .command-of .ensures)
     (effect-supplied (a .input .now) (commandOf (a .s) (a .wp) (a .input .now)) (carries (a .s) (a .wp) (a .input .now))) in
-    (i .order, omega (arith, i .within, t .sized), omega (arith, t .sized, regular (a .s .chip) .small), d)
+    (i .order, omega (arith, i .within, t .sized), omega (arith, t .sized, regular (a .s .chip) .size-le-mebibyte), d)
 
 state-after-requires : tie.Need-state-after-requires
 state-after-requires c κs = rw (c .before .before .before .before .before .before .before .before .before .before .command-of .ensures) (fit (c .before .before .before .before .before .before .before .before .before .before .before))

@@ -82,7 +82,7 @@ loop-again-2 : tie.Need-loop-again-2 Inv-loop μ-loop
 loop-again-2 c = show-wait (c .before .before .before .before .loop .inv) (waited c)
 
 same-length : tie.Need-same-length Inv-loop μ-loop
-same-length c = c .before .before .loop .inv .left .long
+same-length c = c .before .before .loop .inv .lays .long
 
 returns : tie.Need-returns Inv-loop μ-loop
 returns c =

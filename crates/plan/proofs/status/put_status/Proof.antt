@@ -5,6 +5,7 @@ use borrow.Author.Tests.{not-true, not-false}
 use borrow.Author.Needs.{needs}
 use Rattle.script.specs.Record.{encode}
 use Rattle.common.proofs.Laws.Buffer.{Whole, left-start, put-none}
+use Rattle.script.proofs.Laws.Records.{encode-none}
 use Rattle.script.proofs.Laws.Writer.{record-room, record-turn, records-done}
 use Rattle.plan.specs.Plan.{statusRecords}
 use Rattle.plan.proofs.status.put_status.Statement.{statement}
@@ -15,8 +16,7 @@ begun : (c : tie.Else1) → let a = c .before .before .args in Whole (a .at) (en
 begun c = left-start _ _ _ (rw (not-false (c .before .before .args .needed) (c .if1 .left)) at (c .before .before .pre .1))
 
 returns : tie.Need-returns
-unfolding encode
-returns c = rw (not-true (c .before .before .args .needed) (c .if1 .taken)) (put-none _ _)
+returns c = rw (not-true (c .before .before .args .needed) (c .if1 .taken), encode-none) (put-none _ _)
 
 arming-requires : tie.Need-arming-requires
 arming-requires c κs = search needs

@@ -8,7 +8,7 @@ use lib.ListN.{length}
 use Rattle.region.specs.Region.{anyOf}
 use Rattle.region.proofs.Laws.Region.{any-found, any-turn, any-end}
 use Rattle.plan.specs.Plan.{isProtectedChange, stepOneNeeded}
-use Rattle.plan.proofs.Laws.Plan.{protected-at}
+use Rattle.plan.proofs.Laws.Steps.{protected-at}
 use Rattle.plan.proofs.status.step_one_needed.Statement.{statement}
 use Rattle.plan.proofs.status.step_one_needed.Tie as tie
 

@@ -1,4 +1,4 @@
--- `script::run::run_records` meets its contract: at the loop's head the records before `at` are run, and running those that are left makes up the whole.
+-- `run::records::run_records` meets its contract: at the loop's head the records before `at` are run, and running those that are left makes up the whole.
 -- The measure is what is left of the script. Assumes nothing.
 use mathlib.Core.List.{List, [], _∷_}
 use Prim.Native.Nat.{ℕ, _-_}
@@ -10,7 +10,7 @@ use Rattle.script.proofs.reader.Found.{the-type}
 use Rattle.script.specs.declared.reader.Found.{Found}
 use Rattle.script.specs.declared.reader.Found.the-variants.{Frame, Wait, End, Refused}
 use Rattle.script.specs.Record.{wait}
-use Rattle.script.proofs.Laws.Records.{all-bytes}
+use Rattle.common.proofs.Laws.Bits.{bytes-within}
 use Rattle.script.proofs.Laws.Answers.{Stands, FrameTold, EndTold, Told, answer-told}
 use Rattle.run.specs.Run.{device}
 use Rattle.run.proofs.Laws.Accepted.{number-accepted}
@@ -52,7 +52,7 @@ ended c (Refused number next) h t =
 loop-holds : tie.Need-loop-holds Inv-loop μ-loop
 loop-holds c =
     let a = c .before .before .before .args in
-    let bytes = all-bytes (a .script .now) (λ k b. omega (arith, c .before .shared-slice-known .given k)) in
+    let bytes = bytes-within (a .script .now) (λ k b. omega (arith, c .before .shared-slice-known .given k)) in
     walk-start (a .wp) (a .s) (a .array .now) (a .script .now) (a .output .now) bytes (number-accepted _ _ _ _ (c .before .before .before .pre))
 
 record-at-requires : tie.Need-record-at-requires Inv-loop μ-loop

@@ -1,7 +1,6 @@
 -- `script::reader::front_at` meets its contract: the tests that led to a `return` say which case of `front` holds.
 -- Assumes nothing.
 use mathlib.Core.Path.{sym, ap, _∙_}
-use Prim.Native.Nat.{ℕ}
 use native.Mathlib.Omega.{arith}
 use borrow.Author.Needs.{needs}
 use lib.ListN.{drop, length-drop}

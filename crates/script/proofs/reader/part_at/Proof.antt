@@ -1,7 +1,7 @@
 -- `script::reader::part_at` meets its contract: a part that ends `count` bytes behind its start has `count` bytes.
 -- Assumes nothing.
 use mathlib.Core.Path.{_≡_}
-use Prim.Native.Nat.{ℕ, _+_, _-_}
+use Prim.Native.Nat.{_+_, _-_}
 use native.Mathlib.Omega.{arith}
 use borrow.Author.Needs.{needs}
 use Rattle.script.proofs.reader.part_at.Statement.{statement}

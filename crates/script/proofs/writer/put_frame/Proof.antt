@@ -2,8 +2,7 @@
 -- Assumes nothing.
 use lib.ListN.{length}
 use borrow.Author.Needs.{needs}
-use Rattle.script.specs.Record.{frame, encodeRecord}
-use Rattle.script.specs.Head.{frameHead}
+use Rattle.script.specs.Record.{frame, encodeRecord, frameHead}
 use Rattle.common.proofs.Laws.Buffer.{Whole, left-start, left-room, left-turn, left-fits, left-last}
 use Rattle.script.proofs.writer.put_frame.Statement.{statement}
 use Rattle.script.proofs.writer.put_frame.Tie as tie

@@ -1,6 +1,5 @@
 -- `state::power::new_chip` meets its contract: a known number's new state, or refusal 1.
 -- Assumes nothing.
-use mathlib.Core.Path.{refl}
 use Rattle.common.proofs.Laws.Choice.{yes, no}
 use Rattle.state.specs.Power.{newChip}
 use borrow.Author.Needs.{needs}

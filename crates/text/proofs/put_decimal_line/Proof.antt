@@ -1,0 +1,42 @@
+-- `text::put_decimal_line` meets its contract: the line's letter, the number and its line feed are laid one behind the other.
+-- Assumes nothing.
+use Rattle.text.specs.Text.{decimal}
+use Rattle.text.proofs.Laws.Text.{told-room, feed-room, line-put}
+use borrow.Author.Needs.{needs}
+use Rattle.text.proofs.put_decimal_line.Statement.{statement}
+use Rattle.text.proofs.put_decimal_line.Tie as tie
+
+slice-aggregate-put : tie.Need-slice-aggregate-put
+slice-aggregate-put c = search needs
+
+put-requires : tie.Need-put-requires
+put-requires c κs = search needs
+
+put-decimal-requires : tie.Need-put-decimal-requires
+put-decimal-requires c κs = let s = c .before .before .before .before .before .before .before in (s .pre .0, told-room (s .args .letter) (decimal (s .args .number)) (s .pre .1) (c .before .before .before .put .ensures))
+
+slice-aggregate-put-2 : tie.Need-slice-aggregate-put-2
+slice-aggregate-put-2 c = search needs
+
+put-requires-2 : tie.Need-put-requires-2
+put-requires-2 c κs = let s = c .before .before .before .before .before .before .before .before .before .before .before .before in feed-room (s .args .letter) (decimal (s .args .number)) (s .pre .1) (c .before .before .before .before .before .before .before .before .put .ensures) (c .before .before .before .before .put-decimal .ensures)
+
+same-length : tie.Need-same-length
+same-length c = search needs
+
+returns : tie.Need-returns
+returns c =
+    let s = c .before .before .before .before .before .before .before .before .before .before .before .before .before .before .before in
+    line-put (s .args .letter) (decimal (s .args .number)) (s .pre .1) (c .before .before .before .before .before .before .before .before .before .before .before .put .ensures) (c .before .before .before .before .before .before .before .put-decimal .ensures) (c .before .before .put2 .ensures)
+
+pub put-decimal-line-spec : {M : Type 1} → statement M
+put-decimal-line-spec =
+    tie.close
+    (tie.spec
+    slice-aggregate-put
+    put-requires
+    put-decimal-requires
+    slice-aggregate-put-2
+    put-requires-2
+    same-length
+    returns)

@@ -1,0 +1,81 @@
+// Lines of text, written into a lent buffer one behind the other. Nothing here knows a chip or a script.
+use common::buffer::put;
+ghost use mathlib.Core.Path.{_≡_};
+ghost use Prim.Native.Nat.{_+_, _≤_, _<_};
+ghost use lib.ListN.{length};
+ghost use Rattle.common.specs.Buffer.{Put};
+ghost use Rattle.text.specs.Text.{digit, pair, hex, decimal, line};
+
+// What ends a line.
+const LINE_FEED: u8 = b'\n';
+
+// The character of a digit below 16.
+fn digit(value: u8) -> u8
+    requires { ⌜ value < 16 ⌝ }
+    ensures { λ r. ⌜ r ≡ digit value ⌝ }
+{
+    if value < 10 {
+        b'0' + value
+    } else {
+        b'A' + (value - 10)
+    }
+}
+
+// A byte's two digits.
+fn put_pair(byte: u8, text: &mut [u8], at: usize) -> usize
+    requires { ⌜ at + 2 ≤ length (now text) ⌝ }
+    ensures { λ r. ⌜ Put at (pair byte) (now (text .entry)) (now (text .exit)) r ⌝ }
+{
+    put(&[digit(byte / 16), digit(byte % 16)], text, at)
+}
+
+// Each byte's, without gaps.
+fn put_hex(bytes: &[u8], text: &mut [u8], at: usize) -> usize
+    requires { ⌜ at + length (hex (now bytes)) ≤ length (now text) ⌝ }
+    ensures { λ r. ⌜ Put at (hex (now (bytes .entry))) (now (text .entry)) (now (text .exit)) r ⌝ }
+{
+    let mut next = at;
+    let mut i: usize = 0;
+    while i < bytes.len() {
+        next = put_pair(bytes[i], text, next);
+        i += 1;
+    }
+    next
+}
+
+// A number below 100.
+fn put_decimal(number: u32, text: &mut [u8], at: usize) -> usize
+    requires { ⌜ number < 100 ⌝ }
+    requires { ⌜ at + length (decimal number) ≤ length (now text) ⌝ }
+    ensures { λ r. ⌜ Put at (decimal number) (now (text .entry)) (now (text .exit)) r ⌝ }
+{
+    if number < 10 {
+        return put(&[digit(number as u8)], text, at);
+    }
+    put(
+        &[digit((number / 10) as u8), digit((number % 10) as u8)],
+        text,
+        at,
+    )
+}
+
+// A letter and what bytes it stands for, in hex.
+pub fn put_hex_line(letter: u8, bytes: &[u8], text: &mut [u8], at: usize) -> usize
+    requires { ⌜ at + length (line letter (hex (now bytes))) ≤ length (now text) ⌝ }
+    ensures { λ r. ⌜ Put at (line letter (hex (now (bytes .entry)))) (now (text .entry)) (now (text .exit)) r ⌝ }
+{
+    let begun = put(&[letter, b' '], text, at);
+    let told = put_hex(bytes, text, begun);
+    put(&[LINE_FEED], text, told)
+}
+
+// A letter and a number below 100.
+pub fn put_decimal_line(letter: u8, number: u32, text: &mut [u8], at: usize) -> usize
+    requires { ⌜ number < 100 ⌝ }
+    requires { ⌜ at + length (line letter (decimal number)) ≤ length (now text) ⌝ }
+    ensures { λ r. ⌜ Put at (line letter (decimal number)) (now (text .entry)) (now (text .exit)) r ⌝ }
+{
+    let begun = put(&[letter, b' '], text, at);
+    let told = put_decimal(number, text, begun);
+    put(&[LINE_FEED], text, told)
+}
