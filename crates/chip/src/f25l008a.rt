@@ -1,7 +1,42 @@
-// Each opcode's kind on the F25L008A (000, Table 5), by the opcode's number; 70 and 80 are left out.
+// The F25L008A: its data and its instructions.
+use crate::Chip;
 use crate::kinds;
+ghost use mathlib.Core.Path.{_≡_};
+ghost use Rattle.chip.specs.Instructions.{instructions008A, kindIn};
+ghost use Rattle.chip.specs.Chip.{f25l008a};
 
-pub const KINDS: [u8; 256] = [
+pub fn data() -> Chip
+    ensures { λ r. ⌜ r ≡ f25l008a ⌝ }
+{
+    Chip {
+        size: 1048576,
+        family: 0x20,
+        capacity: 0x14,
+        signature: 0x13,
+        preamble: 1,
+        device_id: 0x13,
+        block_time: 1000000,
+        chip_time: 8000000,
+        aai: true,
+        word_plans: true,
+        ewsr: true,
+        sleeps: false,
+        top_bottom: false,
+        graded: true,
+        new_level: 7,
+        keeps: false,
+    }
+}
+
+// The opcode's kind.
+pub fn kind(op: u8) -> u8
+    ensures { λ r. ⌜ r ≡ kindIn instructions008A op ⌝ }
+{
+    KINDS[op as usize]
+}
+
+// Each opcode's kind (000, Table 5), by the opcode's number; 70 and 80 are left out.
+const KINDS: [u8; 256] = [
     kinds::UNKNOWN, // 00
     kinds::WRSR, // 01
     kinds::BYTE_PROGRAM, // 02

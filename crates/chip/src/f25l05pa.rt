@@ -1,7 +1,42 @@
-// Each opcode's kind on the F25L05PA (004, Table 5), by the opcode's number; 3B is left out.
+// The F25L05PA: its data and its instructions.
+use crate::Chip;
 use crate::kinds;
+ghost use mathlib.Core.Path.{_≡_};
+ghost use Rattle.chip.specs.Instructions.{instructions05PA, kindIn};
+ghost use Rattle.chip.specs.Chip.{f25l05pa};
 
-pub const KINDS: [u8; 256] = [
+pub fn data() -> Chip
+    ensures { λ r. ⌜ r ≡ f25l05pa ⌝ }
+{
+    Chip {
+        size: 65536,
+        family: 0x30,
+        capacity: 0x10,
+        signature: 0x05,
+        preamble: 4,
+        device_id: 0x05,
+        block_time: 750000,
+        chip_time: 1000000,
+        aai: false,
+        word_plans: false,
+        ewsr: false,
+        sleeps: true,
+        top_bottom: true,
+        graded: false,
+        new_level: 0,
+        keeps: true,
+    }
+}
+
+// The opcode's kind.
+pub fn kind(op: u8) -> u8
+    ensures { λ r. ⌜ r ≡ kindIn instructions05PA op ⌝ }
+{
+    KINDS[op as usize]
+}
+
+// Each opcode's kind (004, Table 5), by the opcode's number; 3B is left out.
+const KINDS: [u8; 256] = [
     kinds::UNKNOWN, // 00
     kinds::WRSR, // 01
     kinds::PAGE_PROGRAM, // 02

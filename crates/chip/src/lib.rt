@@ -1,10 +1,9 @@
-// The chips: all that differs between them, one value a chip, and a table of 256 kinds of instructions each.
+// The chips: all that differs between them. A chip is a file with its data and its table of 256 kinds of instructions.
 mod f25l008a;
 mod f25l05pa;
 pub mod kinds;
 
 ghost use mathlib.Core.Path.{_≡_};
-ghost use Rattle.chip.specs.Instructions.{instructions008A, instructions05PA, kindIn};
 ghost use Rattle.chip.specs.Chip.{isKnown, chipOf, kindOf};
 
 pub struct Chip {
@@ -44,43 +43,9 @@ pub fn chip_of(number: u8) -> Chip
     ensures { λ r. ⌜ r ≡ chipOf number ⌝ }
 {
     if number == 8 {
-        Chip {
-            size: 1048576,
-            family: 0x20,
-            capacity: 0x14,
-            signature: 0x13,
-            preamble: 1,
-            device_id: 0x13,
-            block_time: 1000000,
-            chip_time: 8000000,
-            aai: true,
-            word_plans: true,
-            ewsr: true,
-            sleeps: false,
-            top_bottom: false,
-            graded: true,
-            new_level: 7,
-            keeps: false,
-        }
+        f25l008a::data()
     } else {
-        Chip {
-            size: 65536,
-            family: 0x30,
-            capacity: 0x10,
-            signature: 0x05,
-            preamble: 4,
-            device_id: 0x05,
-            block_time: 750000,
-            chip_time: 1000000,
-            aai: false,
-            word_plans: false,
-            ewsr: false,
-            sleeps: true,
-            top_bottom: true,
-            graded: false,
-            new_level: 0,
-            keeps: true,
-        }
+        f25l05pa::data()
     }
 }
 
@@ -90,25 +55,13 @@ pub fn is_known(number: u8) -> bool
     (number == 8) | (number == 5)
 }
 
-fn kind_008a(op: u8) -> u8
-    ensures { λ r. ⌜ r ≡ kindIn instructions008A op ⌝ }
-{
-    f25l008a::KINDS[op as usize]
-}
-
-fn kind_05pa(op: u8) -> u8
-    ensures { λ r. ⌜ r ≡ kindIn instructions05PA op ⌝ }
-{
-    f25l05pa::KINDS[op as usize]
-}
-
 // The opcode's kind on the chip of a number.
-pub fn kind_of(chip: u8, op: u8) -> u8
-    ensures { λ r. ⌜ r ≡ kindOf chip op ⌝ }
+pub fn kind_of(number: u8, op: u8) -> u8
+    ensures { λ r. ⌜ r ≡ kindOf number op ⌝ }
 {
-    if chip == 8 {
-        kind_008a(op)
+    if number == 8 {
+        f25l008a::kind(op)
     } else {
-        kind_05pa(op)
+        f25l05pa::kind(op)
     }
 }

@@ -8,19 +8,19 @@ use Rattle.chip.proofs.Laws.Models.{model-of-8, model-of-other}
 use Rattle.chip.proofs.kind_of.Statement.{statement}
 use Rattle.chip.proofs.kind_of.Tie as tie
 
-kind-008a-requires : tie.Need-kind-008a-requires
-kind-008a-requires c κs = search needs
+kind-requires : tie.Need-kind-requires
+kind-requires c κs = search needs
 
-kind-05pa-requires : tie.Need-kind-05pa-requires
-kind-05pa-requires c κs = search needs
+kind-requires-2 : tie.Need-kind-requires-2
+kind-requires-2 c κs = search needs
 
 returns : tie.Need-returns
 unfolding kindOf
-returns c = c .kind-008a .ensures ∙ ap (λ (m : Model). kindIn (m .instructions) (c .before .before .args .op)) (model-of-8 _ (c .before .if1 .taken))
+returns c = c .kind .ensures ∙ ap (λ (m : Model). kindIn (m .instructions) (c .before .before .args .op)) (model-of-8 _ (c .before .if1 .taken))
 
 returns-2 : tie.Need-returns-2
 unfolding kindOf
-returns-2 c = c .kind-05pa .ensures ∙ ap (λ (m : Model). kindIn (m .instructions) (c .before .before .args .op)) (model-of-other _ (c .before .if1 .left))
+returns-2 c = c .kind2 .ensures ∙ ap (λ (m : Model). kindIn (m .instructions) (c .before .before .args .op)) (model-of-other _ (c .before .if1 .left))
 
 pub kind-of-spec : {M : Type 1} → statement M
-kind-of-spec = tie.close (tie.spec kind-008a-requires kind-05pa-requires returns returns-2)
+kind-of-spec = tie.close (tie.spec kind-requires kind-requires-2 returns returns-2)

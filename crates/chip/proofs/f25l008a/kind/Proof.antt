@@ -1,12 +1,12 @@
--- `chip::kind_008a` meets its contract: the table is the instruction list's rule at all 256 numbers, computed once.
+-- `chip::f25l008a::kind` meets its contract: the table is the instruction list's rule at all 256 numbers, computed once.
 -- Assumes nothing.
 use native.Mathlib.Omega.{arith}
 use Prim.Native.Nat.{_<_}
 use Rattle.common.proofs.Laws.Lists.{getD-tab}
 use Rattle.chip.specs.Instructions.{instructions008A, kindIn}
 use borrow.Author.Needs.{needs}
-use Rattle.chip.proofs.kind_008a.Statement.{statement}
-use Rattle.chip.proofs.kind_008a.Tie as tie
+use Rattle.chip.proofs.f25l008a.kind.Statement.{statement}
+use Rattle.chip.proofs.f25l008a.kind.Tie as tie
 
 array-read-result : tie.Need-array-read-result
 array-read-result c = search needs
@@ -15,5 +15,5 @@ returns : tie.Need-returns
 returns c =
     let h : c .args .op < 256 = omega arith in getD-tab 256 (kindIn instructions008A) (c .args .op) 0 h
 
-pub kind-008a-spec : {M : Type 1} → statement M
-kind-008a-spec = tie.close (tie.spec array-read-result returns)
+pub kind-spec : {M : Type 1} → statement M
+kind-spec = tie.close (tie.spec array-read-result returns)
