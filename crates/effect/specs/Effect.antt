@@ -1,4 +1,4 @@
--- What a command does to the array (01, "Frames"): which addresses it touches, and the byte that each gets.
+-- What a frame does to the array (01, "Frames"): which addresses it touches, and the byte that each gets. Nothing here knows a state.
 use mathlib.Core.Bool.{Bool, false, _&&_, cond}
 use mathlib.Core.List.{List}
 use Prim.Native.Nat.{ℕ, _+_, _-_, _*_, _/_, _%_, _≤_}

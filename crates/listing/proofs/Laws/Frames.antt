@@ -13,7 +13,7 @@ use Rattle.script.specs.Survey.{surveyOf}
 use Rattle.script.specs.declared.survey.Survey.{Survey}
 use Rattle.script.proofs.Laws.Records.{output-frame, output-wait, script-length-first}
 use Rattle.script.proofs.Laws.Decode.{decoded-length}
-use Rattle.script.proofs.Laws.Answers.{Stands, First, stands-first, FrameTold, EndTold, RefusalTold}
+use Rattle.script.proofs.Laws.Answers.{Stands, First, stands-first, FrameTold, EndTold}
 use Rattle.script.proofs.Laws.Survey.{survey-whole}
 use Rattle.run.specs.Run.{Device, step, outputOf, outputs}
 use Rattle.run.proofs.Laws.Run.{outputs-frame, outputs-wait, output-length}
@@ -128,7 +128,3 @@ module _ {script output text₀ text : List ℕ} {at shown next : ℕ} (w : Show
   pub show-end : EndTold script at → Put 0 (cutLines (recordsOf script) output) text₀ text next
   unfolding cutLines
   show-end t = let none : w .left ≡ [] = cc (t .decoded, w .decoded) in left-none (rw none at (w .lays))
-
-  -- no record is refused
-  pub show-checked : {number : ℕ} → RefusalTold script at number → ⊥
-  show-checked t = let z : _≡_ {A = ℕ} 0 1 = cc (t .decoded, w .decoded) in omega arith

@@ -17,7 +17,7 @@ use Rattle.common.specs.Limits.{longestScript}
 use Rattle.script.specs.Decode.{records, decode, recordsOf}
 use Rattle.script.proofs.Laws.Records.{output-append, output-none, output-frame, output-wait}
 use Rattle.script.proofs.Laws.Decode.{encode-decode}
-use Rattle.script.proofs.Laws.Answers.{Stands, First, stands-first, FrameTold, EndTold, RefusalTold}
+use Rattle.script.proofs.Laws.Answers.{Stands, First, stands-first, FrameTold, EndTold}
 use Rattle.frame.specs.Call.{FrameRun}
 use Rattle.frame.proofs.Laws.Call.{frame-buffer-free, frame-output-length}
 use Rattle.run.specs.Run.{Device, device, step, outputOf, run, outputs}
@@ -127,7 +127,3 @@ module _ {wp : Bool} {script : List ℕ} {begun : Device} {room at laid : ℕ} {
       let none : w .left ≡ [] = cc in
       let all : laid ≡ length output = omega (arith, w .fills, w .long, ap outputLength none, output-none) in
       (rw none at (w .device-is), sym (take-all laid output (omega arith)) ∙ sym (append-nil (take laid output)) ∙ (rw none at (w .output-is)))
-
-  -- no record of a checked script is refused
-  pub walk-checked : {number : ℕ} → RefusalTold script at number → ⊥
-  walk-checked t = let z : _≡_ {A = ℕ} 0 1 = cc (t .decoded, w .decoded) in omega arith

@@ -76,6 +76,10 @@ pub record RefusalTold (script : List ℕ) (offset number : ℕ) : Type 0 where
   pub number-is : number ≡ faultNumber fault
   pub decoded : decode (drop offset script) ≡ badAt fault 0
 
+-- where the bytes are records to the end, none is refused
+pub good-not-refused : {script : List ℕ} {offset number : ℕ} {rs : List Record} → decode (drop offset script) ≡ records rs → RefusalTold script offset number → ⊥
+good-not-refused good told = let z : _≡_ {A = ℕ} 0 1 = cc (told .decoded, good) in omega arith
+
 -- what each answer tells of the script
 abbrev pub Told : List ℕ → ℕ → Found → Type 0
 Told script offset (Frame start n next) = FrameTold script offset start n next

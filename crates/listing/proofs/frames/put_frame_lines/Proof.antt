@@ -10,8 +10,8 @@ use Rattle.script.proofs.reader.Found.{the-type}
 use Rattle.script.specs.declared.reader.Found.{Found}
 use Rattle.script.specs.declared.reader.Found.the-variants.{Frame, Wait, End, Refused}
 use Rattle.script.specs.Record.{wait}
-use Rattle.script.proofs.Laws.Answers.{Stands, FrameTold, EndTold, Told, answer-told}
-use Rattle.listing.proofs.Laws.Frames.{Shown, show-start, frame-inside, frame-room, show-frame, show-wait, show-end, show-checked}
+use Rattle.script.proofs.Laws.Answers.{good-not-refused, Stands, FrameTold, EndTold, Told, answer-told}
+use Rattle.listing.proofs.Laws.Frames.{Shown, show-start, frame-inside, frame-room, show-frame, show-wait, show-end}
 use borrow.Author.Needs.{needs}
 use Rattle.listing.proofs.frames.put_frame_lines.Statement.{statement}
 use Rattle.listing.proofs.frames.put_frame_lines.Tie as tie
@@ -40,7 +40,7 @@ ended : (c : tie.At-match-keys3 Inv-loop μ-loop) (found : Found) → OneOf (2 �
 ended c (Frame start n next) h t = absurd (miss (2 ∷ 3 ∷ []) 0 tt h)
 ended c (Wait microseconds next) h t = absurd (miss (2 ∷ 3 ∷ []) 1 tt h)
 ended c (End next) h t = t .1
-ended c (Refused number next) h t = let w = c .before .before .loop .inv in absurd (show-checked w (t .1 (w .short) (w .inside)))
+ended c (Refused number next) h t = let w = c .before .before .loop .inv in absurd (good-not-refused (w .decoded) (t .1 (w .short) (w .inside)))
 
 loop-holds : tie.Need-loop-holds Inv-loop μ-loop
 loop-holds c = let s = c .before .before .before in show-start _ _ _ (s .pre .0) (s .pre .1 .0) (s .pre .1 .1)

@@ -11,10 +11,10 @@ use Rattle.script.specs.declared.reader.Found.{Found}
 use Rattle.script.specs.declared.reader.Found.the-variants.{Frame, Wait, End, Refused}
 use Rattle.script.specs.Record.{wait}
 use Rattle.common.proofs.Laws.Bits.{bytes-within}
-use Rattle.script.proofs.Laws.Answers.{Stands, FrameTold, EndTold, Told, answer-told}
+use Rattle.script.proofs.Laws.Answers.{good-not-refused, Stands, FrameTold, EndTold, Told, answer-told}
 use Rattle.run.specs.Run.{device}
 use Rattle.run.proofs.Laws.Accepted.{number-accepted}
-use Rattle.run.proofs.Laws.Walk.{Walked, walk-start, frame-room, walk-frame, walk-wait, walk-end, walk-checked}
+use Rattle.run.proofs.Laws.Walk.{Walked, walk-start, frame-room, walk-frame, walk-wait, walk-end}
 use borrow.Author.Needs.{needs}
 use Rattle.run.proofs.records.run_records.Statement.{statement}
 use Rattle.run.proofs.records.run_records.Tie as tie
@@ -47,7 +47,7 @@ ended c (Frame start n next) h t = absurd (miss (2 ∷ 3 ∷ []) 0 tt h)
 ended c (Wait microseconds next) h t = absurd (miss (2 ∷ 3 ∷ []) 1 tt h)
 ended c (End next) h t = t .1
 ended c (Refused number next) h t =
-    let w = c .before .before .loop .inv in absurd (walk-checked w (t .1 (w .short) (w .inside)))
+    let w = c .before .before .loop .inv in absurd (good-not-refused (w .decoded) (t .1 (w .short) (w .inside)))
 
 loop-holds : tie.Need-loop-holds Inv-loop μ-loop
 loop-holds c =
