@@ -1,21 +1,22 @@
 #!/usr/bin/env bash
 # Program `play` at its edges: 01's sample, empty input, a script one byte too long, a bad record, and a frame of 4,101 bytes.
+# The last line counts them, and the exit is non-zero where one fails.
 set -euo pipefail
 cd "$(dirname "$0")/.."
 [ -x target/bin/play ] || rt check play >/dev/null
 work=$(mktemp -d)
 trap 'rm -rf "$work"' EXIT
-failed=0
+passed=0 failed=0
 
 # name, with the input in $work/in and what must be printed in $work/want
 try() {
-    target/bin/play <"$work/in" >"$work/got"
-    if cmp -s "$work/want" "$work/got"; then
+    if target/bin/play <"$work/in" >"$work/got" && cmp -s "$work/want" "$work/got"; then
         echo "play: $1: as it must be"
+        passed=$((passed + 1))
     else
         echo "play: $1: DIFFERENT"
         diff "$work/want" "$work/got" | head -n 4 || true
-        failed=1
+        failed=$((failed + 1))
     fi
 }
 
@@ -51,4 +52,5 @@ try "a last record cut short: nothing is run"
 } >"$work/want"
 try "a frame of 4,101 bytes"
 
-exit "$failed"
+echo "$passed passed, $failed failed"
+[ "$failed" -eq 0 ]

@@ -1,8 +1,8 @@
-//! The library's speed beside the plain model's.
+//! The library's speed beside the plain model's, and the limit that plain copying sets.
 //!
-//! `bench` prints a line for each operation: its name, the library's nanoseconds, the model's.
-//! `bench <operation> <library|model> <times>` only does the operation, to be counted from
-//! outside; `bench list` prints the names.
+//! `bench list` prints the names of the rows. `bench time <row>` prints the library's nanoseconds
+//! and the model's; a limit has one figure. `bench do <row> <library|model> <times>` only does the
+//! operation, to be counted from outside; a limit is the same for both.
 
 mod operation;
 
@@ -10,7 +10,7 @@ use std::process::ExitCode;
 use std::time::{Duration, Instant};
 
 use model::Model;
-use operation::{Operation, OPERATIONS};
+use operation::{Operation, LIMITS, OPERATIONS};
 use zeradok::Library;
 
 const BATCH: Duration = Duration::from_millis(15);
@@ -20,33 +20,42 @@ fn main() -> ExitCode {
     let arguments: Vec<String> = std::env::args().skip(1).collect();
     let arguments: Vec<&str> = arguments.iter().map(String::as_str).collect();
     match arguments[..] {
-        [] => OPERATIONS.iter().for_each(time),
-        ["list"] => OPERATIONS.iter().for_each(|(name, _)| println!("{name}")),
-        [name, subject, times] => {
-            let operation = OPERATIONS.iter().find(|(known, _)| *known == name);
-            let (Some((_, prepare)), Ok(times)) = (operation, times.parse()) else {
-                return usage();
-            };
-            let mut operation = prepare();
-            match subject {
-                "library" => operation.repeat::<Library>(times),
-                "model" => operation.repeat::<Model>(times),
-                _ => return usage(),
-            }
+        ["list"] => {
+            OPERATIONS.iter().chain(&LIMITS).for_each(|(name, _)| println!("{name}"));
+            Some(())
         }
-        _ => return usage(),
+        ["time", name] => time(name),
+        ["do", name, subject, times] => repeat(name, subject, times),
+        _ => None,
     }
-    ExitCode::SUCCESS
+    .map_or_else(usage, |()| ExitCode::SUCCESS)
 }
 
 fn usage() -> ExitCode {
-    eprintln!("usage: bench [list | <operation> <library|model> <times>]");
+    eprintln!("usage: bench list | time <row> | do <row> <library|model> <times>");
     ExitCode::FAILURE
 }
 
+/// The operation of a row, ready to be done.
+fn prepared(name: &str) -> Option<Operation> {
+    let row = OPERATIONS.iter().chain(&LIMITS).find(|(known, _)| *known == name);
+    row.map(|(_, prepare)| prepare())
+}
+
+fn repeat(name: &str, subject: &str, times: &str) -> Option<()> {
+    let mut operation = prepared(name)?;
+    let times = times.parse().ok()?;
+    match subject {
+        "library" => operation.repeat::<Library>(times),
+        "model" => operation.repeat::<Model>(times),
+        _ => return None,
+    }
+    Some(())
+}
+
 /// Times both in turns and takes the best batch of each.
-fn time((name, prepare): &(&str, fn() -> Operation)) {
-    let mut operation = prepare();
+fn time(name: &str) -> Option<()> {
+    let mut operation = prepared(name)?;
     let library = |operation: &mut Operation, times| operation.repeat::<Library>(times);
     let model = |operation: &mut Operation, times| operation.repeat::<Model>(times);
     let library_times = calibrate(&mut operation, library);
@@ -56,7 +65,12 @@ fn time((name, prepare): &(&str, fn() -> Operation)) {
         best[0] = best[0].min(nanoseconds(&mut operation, library, library_times));
         best[1] = best[1].min(nanoseconds(&mut operation, model, model_times));
     }
-    println!("{name}\t{:.1}\t{:.1}", best[0], best[1]);
+    if LIMITS.iter().any(|(limit, _)| *limit == name) {
+        println!("{:.1}", best[0].min(best[1]));
+    } else {
+        println!("{:.1}\t{:.1}", best[0], best[1]);
+    }
+    Some(())
 }
 
 /// How many times fill a batch.

@@ -11,15 +11,46 @@ const SIZE_05PA: usize = 0x1_0000;
 const ROOMY: usize = 27_000;
 
 pub enum Operation {
-    Frame { state: State, array: Vec<u8>, frame: Vec<u8>, output: Vec<u8> },
-    Plan { state: State, array: Vec<u8>, start: usize, wanted: Vec<u8>, buffer: Vec<u8> },
-    Run { state: State, array: Vec<u8>, script: Vec<u8>, output: Vec<u8> },
+    /// `number` is what it has to be answered with.
+    Frame {
+        state: State,
+        array: Vec<u8>,
+        frame: Vec<u8>,
+        output: Vec<u8>,
+        number: u32,
+    },
+    Plan {
+        state: State,
+        array: Vec<u8>,
+        start: usize,
+        wanted: Vec<u8>,
+        buffer: Vec<u8>,
+    },
+    Run {
+        state: State,
+        array: Vec<u8>,
+        script: Vec<u8>,
+        output: Vec<u8>,
+    },
+    Copy {
+        from: Vec<u8>,
+        to: Vec<u8>,
+    },
+    Fill {
+        to: Vec<u8>,
+    },
 }
 
 type Prepare = fn() -> Operation;
 
-pub const OPERATIONS: [(&str, Prepare); 9] = [
+pub const OPERATIONS: [(&str, Prepare); 13] = [
     ("05, status", || frame(writing(8), SIZE_008A, &[0x05, 0x00], 2)),
+    ("05 while busy", || {
+        let state = State { left: 1_000, ..writing(8) };
+        frame(state, SIZE_008A, &[0x05, 0x00], 2)
+    }),
+    ("a refused frame", || refused(frame(writing(8), SIZE_008A, &[0x05, 0x00], 2))),
+    ("03, 16 bytes", || frame(writing(8), SIZE_008A, &[0x03, 0x01, 0x23, 0x45], 20)),
     ("03, 4,096 bytes", || frame(writing(8), SIZE_008A, &[0x03, 0x01, 0x23, 0x45], 4_100)),
     ("02, page of 256 (05PA)", || frame(writing(5), SIZE_05PA, &[0x02, 0x00, 0x12, 0x00], 260)),
     ("AD, one word in AAI (008A)", || {
@@ -31,6 +62,14 @@ pub const OPERATIONS: [(&str, Prepare); 9] = [
     ("plan 4,096 bytes, worst (05PA)", worst_plan_05pa),
     ("run that plan (008A)", || run(worst_plan_008a())),
     ("run that plan (05PA)", || run(worst_plan_05pa())),
+    ("run 1,000 status reads", status_reads),
+];
+
+/// What no frame that shows or erases as much can cost less than: the C library does it, and
+/// nobody tests or decides anything.
+pub const LIMITS: [(&str, Prepare); 2] = [
+    ("memcpy of 4,096 bytes", || Operation::Copy { from: vec![0x3C; 4_096], to: vec![0; 4_096] }),
+    ("memset of a sector", || Operation::Fill { to: vec![0; 4_096] }),
 ];
 
 /// At rest, unprotected, WEL 1.
@@ -41,7 +80,16 @@ fn writing(chip: u8) -> State {
 fn frame(state: State, size: usize, head: &[u8], length: usize) -> Operation {
     let mut frame = head.to_vec();
     frame.resize(length, 0x3C);
-    Operation::Frame { state, array: vec![0xFF; size], frame, output: vec![0; length] }
+    Operation::Frame { state, array: vec![0xFF; size], frame, output: vec![0; length], number: 0 }
+}
+
+/// The same frame with an output one byte too short (01's refusal 4).
+fn refused(operation: Operation) -> Operation {
+    let Operation::Frame { state, array, frame, mut output, .. } = operation else {
+        return operation;
+    };
+    output.pop();
+    Operation::Frame { state, array, frame, output, number: 4 }
 }
 
 /// Every second word changes, so each is a run of its own, and all is protected. An odd start
@@ -88,6 +136,17 @@ fn run(plan: Operation) -> Operation {
     Operation::Run { state, array, script: buffer, output: vec![0; outputs] }
 }
 
+/// The cheapest frame in as many records, so that a record's own cost shows.
+fn status_reads() -> Operation {
+    let script = [0x5A, 0x46, 0x00, 0x02, 0x05, 0x00].repeat(1_000);
+    Operation::Run {
+        state: writing(8),
+        array: vec![0xFF; SIZE_008A],
+        script,
+        output: vec![0; 2_000],
+    }
+}
+
 /// Somebody to be measured: frames go to a chip held in the subject's own form, so that no
 /// conversion is measured with them.
 pub trait Subject: Calls {
@@ -112,16 +171,16 @@ impl Subject for Model {
 }
 
 impl Operation {
-    /// Does it so many times; each has to be accepted.
+    /// Does it so many times; each has to be answered as it must be.
     pub fn repeat<S: Subject>(&mut self, times: u32) {
         match self {
-            Operation::Frame { state, array, frame, output } => {
+            Operation::Frame { state, array, frame, output, number } => {
                 let at_first = S::Chip::from(*state);
                 for _ in 0..times {
                     let mut chip = black_box(at_first);
                     let (array, output) = (black_box(&mut array[..]), black_box(&mut output[..]));
-                    let number = S::send(&mut chip, array, black_box(&frame[..]), output);
-                    assert_eq!(number, 0);
+                    let given = S::send(&mut chip, array, black_box(&frame[..]), output);
+                    assert_eq!(given, *number);
                     black_box(&mut chip);
                 }
             }
@@ -140,6 +199,10 @@ impl Operation {
                     assert_eq!(ran.number, 0);
                 }
             }
+            Operation::Copy { from, to } => {
+                (0..times).for_each(|_| black_box(&mut to[..]).copy_from_slice(black_box(from)));
+            }
+            Operation::Fill { to } => (0..times).for_each(|_| black_box(&mut to[..]).fill(0xFF)),
         }
     }
 }

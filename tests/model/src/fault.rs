@@ -24,6 +24,10 @@ pub enum Fault {
     IgnoredKeepsArmed,
     /// BPL alone, or WP low alone, locks the status register.
     LockedByEither,
+    /// Asked for a chip of an unknown number, it answers with a new 008A.
+    UnknownChipIs008a,
+    /// Power-up refuses a state that isn't sound by number 2.
+    UnsoundIsRefusal2,
     /// BP2 protects the 05PA.
     Bp2Protects05pa,
     /// The 05PA loses its protection bits at power-off.

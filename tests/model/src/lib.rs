@@ -35,6 +35,9 @@ impl<const FAULT: u8> Calls for Model<FAULT> {
     fn new_chip(chip: u8) -> Answer {
         match Chip::numbered(chip) {
             Some(chip) => Answer::accepted(State::new(chip)),
+            None if Fault::UnknownChipIs008a.within(FAULT) => {
+                Answer::refused(refusal::STATE, State::new(&chip::F25L008A))
+            }
             None => Answer::refused(refusal::STATE, State::new(&chip::F25L05PA)),
         }
     }
@@ -42,6 +45,9 @@ impl<const FAULT: u8> Calls for Model<FAULT> {
     fn power_up(state: State) -> Answer {
         match state.sound_chip::<FAULT>() {
             Some(chip) => Answer::accepted(state.powered_up::<FAULT>(chip)),
+            None if Fault::UnsoundIsRefusal2.within(FAULT) => {
+                Answer::refused(refusal::ARRAY_LENGTH, state)
+            }
             None => Answer::refused(refusal::STATE, state),
         }
     }

@@ -59,6 +59,8 @@ faults! {
     StatusReadKeepsArmed
     IgnoredKeepsArmed
     LockedByEither
+    UnknownChipIs008a
+    UnsoundIsRefusal2
     Bp2Protects05pa
     ProtectionForgotten
     AaiPassesBorder
