@@ -55,13 +55,19 @@ pub fn is_known(number: u8) -> bool
     (number == 8) | (number == 5)
 }
 
-// The opcode's kind on the chip of a number.
+// The opcode's kind on the chip of a number. The compiler lays a constant table on the stack where it is read, and for an opcode that it
+// knows to be below 128, as most frames' are, the lower half alone: so that case stands apart, though both read the same.
 pub fn kind_of(number: u8, op: u8) -> u8
     ensures { λ r. ⌜ r ≡ kindOf number op ⌝ }
 {
-    if number == 8 {
-        f25l008a::kind(op)
-    } else {
-        f25l05pa::kind(op)
+    if op < 128 {
+        if number == 8 {
+            return f25l008a::kind(op);
+        }
+        return f25l05pa::kind(op);
     }
+    if number == 8 {
+        return f25l008a::kind(op);
+    }
+    f25l05pa::kind(op)
 }

@@ -2,6 +2,7 @@ pub mod Choice
 pub mod Booleans
 pub mod Pairs
 pub mod Lists
+pub mod Runs
 pub mod Each
 pub mod Places
 pub mod Refusals

@@ -1,8 +1,10 @@
 -- Lists by place: what stands at each index, what becomes of it, and how many indexes pass a test.
+use mathlib.Core.Path.{_≡_}
 use mathlib.Core.Bool.{Bool, _&&_, cond}
 use mathlib.Core.List.{List, [], _∷_}
-use Prim.Native.Nat.{ℕ, zero, suc, _+_}
+use Prim.Native.Nat.{ℕ, zero, suc, _+_, _<_}
 use lib.Dec.{leb, ltb}
+use lib.ListN.{getD}
 
 -- each byte x at place k becomes f k x
 abbrev pub mapi : (ℕ → ℕ → ℕ) → List ℕ → List ℕ
@@ -21,6 +23,10 @@ upTo i f k x = cond (ltb k i) (f k x) x
 -- f at the places lo up to hi, and nothing elsewhere
 abbrev pub onRun : ℕ → ℕ → (ℕ → ℕ → ℕ) → ℕ → ℕ → ℕ
 onRun lo hi f k x = cond (leb lo k && ltb k hi) (f k x) x
+
+-- the first n elements of a list are those of another from place `at` on
+abbrev pub Carries : ℕ → List ℕ → ℕ → List ℕ → Type 0
+Carries n source at strip = (i : ℕ) → i < n → getD strip i 0 ≡ getD source (at + i) 0
 
 -- how many numbers below k pass the test
 unfoldable pub countBelow : (ℕ → Bool) → ℕ → ℕ

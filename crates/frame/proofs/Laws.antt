@@ -2,7 +2,7 @@ pub mod Inside
 pub mod Supplied
 pub mod Accepted
 pub mod Call
+pub mod Ran
 pub mod Array
 pub mod Sound
-pub mod Chip
 pub mod Determined

@@ -2,94 +2,72 @@
 use mathlib.Core.Path.{_≡_}
 use mathlib.Core.Bool.{Bool, _||_, not}
 use mathlib.Core.List.{List, [], _∷_, _++_}
-use Prim.Native.Nat.{ℕ}
+use Prim.Native.Nat.{ℕ, _≤_, _<_}
 use lib.Dec.{ltb, eqb}
 use lib.ListN.{length}
 use Rattle.common.specs.Limits.{longestFrame}
-use Rattle.common.specs.Lists.{mapi, tab}
 use Rattle.common.specs.Refusals.{stateNotSound, wrongArray, wrongFrame, wrongOutput, wrongMask, firstOf, accepted}
-use Rattle.state.specs.declared.State.{State}
-use Rattle.state.specs.declared.Answer.{Answer}
 use Rattle.state.specs.State.{dataOf}
-use Rattle.state.specs.Answer.{answered}
-use Rattle.state.specs.Soundness.{isSound}
-use Rattle.state.specs.Power.{poweredUp}
-use Rattle.command.specs.Command.{commandOf}
-use Rattle.registers.specs.Registers.{stateAfter}
-use Rattle.output.specs.Output.{memory, shownAt}
-use Rattle.effect.specs.declared.Effect.{Effect}
-use Rattle.effect.specs.Effect.{changed, maskLength}
-use Rattle.frame.specs.Effect.{effectOf}
-use Rattle.effect.specs.Cut.{cut}
+use Rattle.state.specs.Soundness.{isSound, Sound}
+use Rattle.frame.specs.Device.{Device}
+use Rattle.frame.specs.Ran.{ranDevice, shown, maskWanted, tornDevice}
 
--- by the lengths of the array, the frame and the output
-abbrev pub frameRefusals : State → ℕ → ℕ → ℕ → List (ℕ × Bool)
-frameRefusals s size n out =
-    (stateNotSound, not (isSound s))
-    ∷ (wrongArray, not (eqb size (dataOf s .size)))
-    ∷ (wrongFrame, eqb n 0 || ltb longestFrame n)
-    ∷ (wrongOutput, not (eqb out n))
+-- ---- run a frame: the level of WP, the frame, the chip and the lent output
+
+abbrev pub frameRefusals : Bool → List ℕ → Device → List ℕ → List (ℕ × Bool)
+frameRefusals wp f d output =
+    (stateNotSound, not (isSound (d .state)))
+    ∷ (wrongArray, not (eqb (length (d .array)) (dataOf (d .state) .size)))
+    ∷ (wrongFrame, eqb (length f) 0 || ltb longestFrame (length f))
+    ∷ (wrongOutput, not (eqb (length output) (length f)))
     ∷ []
 
-unfoldable pub frameNumber : State → ℕ → ℕ → ℕ → ℕ
-frameNumber s size n out = firstOf (frameRefusals s size n out)
+unfoldable pub frameNumber : Bool → List ℕ → Device → List ℕ → ℕ
+frameNumber wp f d output = firstOf (frameRefusals wp f d output)
 
--- the frame's effect on the array
-abbrev pub effectAt : State → Bool → List ℕ → Effect
-effectAt s wp f = effectOf (commandOf s wp f)
+-- what holds where none of them does
+pub record Accepted (wp : Bool) (f : List ℕ) (d : Device) (output : List ℕ) : Type 0 where
+  pub sound : Sound (d .state)
+  pub sized : length (d .array) ≡ dataOf (d .state) .size
+  pub some : 0 < length f
+  pub short : length f ≤ longestFrame
+  pub same : length output ≡ length f
 
--- the registers when the frame ends
-abbrev pub stateAt : State → Bool → List ℕ → State
-stateAt s wp f = stateAfter s (commandOf s wp f)
+unfoldable pub frameDevice : Bool → List ℕ → Device → List ℕ → Device
+frameDevice wp f d output = accepted (frameNumber wp f d output) (ranDevice wp f d) d
 
-abbrev pub shown : State → Bool → List ℕ → List ℕ → List ℕ
-shown s wp array f = tab (length f) (shownAt s (commandOf s wp f) (memory array))
-
--- ---- run a frame
-
-unfoldable pub frameAnswer : State → Bool → List ℕ → List ℕ → List ℕ → Answer
-frameAnswer s wp array f output = answered (frameNumber s (length array) (length f) (length output)) s (stateAt s wp f)
-
-unfoldable pub frameArray : State → Bool → List ℕ → List ℕ → List ℕ → List ℕ
-frameArray s wp array f output =
-    accepted (frameNumber s (length array) (length f) (length output)) (mapi (changed (effectAt s wp f) f) array) array
-
-unfoldable pub frameOutput : State → Bool → List ℕ → List ℕ → List ℕ → List ℕ
-frameOutput s wp array f output = accepted (frameNumber s (length array) (length f) (length output)) (shown s wp array f) output
+unfoldable pub frameOutput : Bool → List ℕ → Device → List ℕ → List ℕ
+frameOutput wp f d output = accepted (frameNumber wp f d output) (shown wp f d) output
 
 -- what the call answers and leaves
-pub record FrameRun (s : State) (wp : Bool) (array f output : List ℕ) (answer : Answer) (arrayAfter outputAfter : List ℕ) : Type 0 where
-  pub answers : answer ≡ frameAnswer s wp array f output
-  pub array-is : arrayAfter ≡ frameArray s wp array f output
-  pub output-is : outputAfter ≡ frameOutput s wp array f output
+pub record FrameRun (wp : Bool) (f : List ℕ) (d : Device) (output : List ℕ) (number : ℕ) (after : Device) (outputAfter : List ℕ) : Type 0 where
+  pub number-is : number ≡ frameNumber wp f d output
+  pub device-is : after ≡ frameDevice wp f d output
+  pub output-is : outputAfter ≡ frameOutput wp f d output
 
--- ---- run an interrupted frame
+-- ---- run an interrupted frame: with a mask
 
--- by the mask's length
-abbrev pub maskRefusals : State → Bool → List ℕ → ℕ → List (ℕ × Bool)
-maskRefusals s wp f mask = (wrongMask, not (eqb mask (maskLength (effectAt s wp f)))) ∷ []
+abbrev pub maskRefusals : Bool → List ℕ → List ℕ → Device → List (ℕ × Bool)
+maskRefusals wp f mask d = (wrongMask, not (eqb (length mask) (maskWanted wp f d))) ∷ []
 
 -- the frame's own, then the mask's
-abbrev pub cutRefusals : State → Bool → ℕ → List ℕ → ℕ → ℕ → List (ℕ × Bool)
-cutRefusals s wp size f out mask = frameRefusals s size (length f) out ++ maskRefusals s wp f mask
+abbrev pub cutRefusals : Bool → List ℕ → List ℕ → Device → List ℕ → List (ℕ × Bool)
+cutRefusals wp f mask d output = frameRefusals wp f d output ++ maskRefusals wp f mask d
 
-unfoldable pub cutNumber : State → Bool → ℕ → List ℕ → ℕ → ℕ → ℕ
-cutNumber s wp size f out mask = firstOf (cutRefusals s wp size f out mask)
+unfoldable pub cutNumber : Bool → List ℕ → List ℕ → Device → List ℕ → ℕ
+cutNumber wp f mask d output = firstOf (cutRefusals wp f mask d output)
 
--- "Then power-up."
-unfoldable pub cutAnswer : State → Bool → List ℕ → List ℕ → List ℕ → List ℕ → Answer
-cutAnswer s wp array f output mask =
-    answered (cutNumber s wp (length array) f (length output) (length mask)) s (poweredUp (stateAt s wp f))
+pub record CutAccepted (wp : Bool) (f mask : List ℕ) (d : Device) (output : List ℕ) : Type 0 where
+  pub whole : Accepted wp f d output
+  pub masked : length mask ≡ maskWanted wp f d
 
-unfoldable pub cutArray : State → Bool → List ℕ → List ℕ → List ℕ → List ℕ → List ℕ
-cutArray s wp array f output mask =
-    accepted (cutNumber s wp (length array) f (length output) (length mask)) (mapi (cut (effectAt s wp f) f mask) array) array
+unfoldable pub cutDevice : Bool → List ℕ → List ℕ → Device → List ℕ → Device
+cutDevice wp f mask d output = accepted (cutNumber wp f mask d output) (tornDevice wp f mask d) d
 
-unfoldable pub cutOutput : State → Bool → List ℕ → List ℕ → List ℕ → List ℕ → List ℕ
-cutOutput s wp array f output mask =
-    accepted (cutNumber s wp (length array) f (length output) (length mask)) (shown s wp array f) output
+unfoldable pub cutOutput : Bool → List ℕ → List ℕ → Device → List ℕ → List ℕ
+cutOutput wp f mask d output = accepted (cutNumber wp f mask d output) (shown wp f d) output
 
-pub record CutRun (s : State) (wp : Bool) (array f output mask : List ℕ) (answer : Answer) (arrayAfter outputAfter : List ℕ) : Type 0 where
-  pub answers : answer ≡ cutAnswer s wp array f output mask
-  pub array-is : arrayAfter ≡ cutArray s wp array f output mask
-  pub output-is : outputAfter ≡ cutOutput s wp array f output mask
+pub record CutRun (wp : Bool) (f mask : List ℕ) (d : Device) (output : List ℕ) (number : ℕ) (after : Device) (outputAfter : List ℕ) : Type 0 where
+  pub number-is : number ≡ cutNumber wp f mask d output
+  pub device-is : after ≡ cutDevice wp f mask d output
+  pub output-is : outputAfter ≡ cutOutput wp f mask d output

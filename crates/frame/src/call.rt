@@ -1,26 +1,28 @@
-// The calls: run a frame, run an interrupted frame.
+// The calls: run a frame, run an interrupted frame. Each is its refusals, then the accepted frame.
+use crate::accepted::run_accepted;
+use crate::accepted::run_accepted_cut;
 use crate::effect_of;
 use common::limits::LONGEST_FRAME;
 use common::refusals;
 use state::Answer;
 use state::State;
 ghost use mathlib.Core.Path.{_≡_};
-ghost use Rattle.frame.specs.Call.{frameNumber, FrameRun, CutRun};
+ghost use Rattle.frame.specs.Device.{device};
+ghost use Rattle.frame.specs.Call.{frameNumber, FrameRun, cutNumber, CutRun};
 
-// By the lengths of the array, the frame and the output.
-fn frame_number(s: State, size: usize, count: usize, output: usize) -> u32
-    ensures { λ r. ⌜ r ≡ frameNumber s size count output ⌝ }
+fn frame_number(s: State, wp: bool, array: &[u8], input: &[u8], output: &[u8]) -> u32
+    ensures { λ r. ⌜ r ≡ frameNumber wp (now (input .entry)) (device s (now (array .entry))) (now (output .entry)) ⌝ }
 {
     if !state::soundness::is_sound(s) {
         return refusals::STATE_NOT_SOUND;
     }
-    if size != chip::chip_of(s.chip).size as usize {
+    if array.len() != chip::chip_of(s.chip).size as usize {
         return refusals::WRONG_ARRAY;
     }
-    if (count == 0) | (LONGEST_FRAME < count) {
+    if (input.len() == 0) | (LONGEST_FRAME < input.len()) {
         return refusals::WRONG_FRAME;
     }
-    if output != count {
+    if output.len() != input.len() {
         return refusals::WRONG_OUTPUT;
     }
     0
@@ -28,17 +30,27 @@ fn frame_number(s: State, size: usize, count: usize, output: usize) -> u32
 
 // Run a frame: the bytes between select and deselect.
 pub fn run_frame(s: State, wp: bool, array: &mut [u8], input: &[u8], output: &mut [u8]) -> Answer
-    ensures { λ r. ⌜ FrameRun s wp (now (array .entry)) (now (input .entry)) (now (output .entry)) r (now (array .exit)) (now (output .exit)) ⌝ }
+    ensures { λ r. ⌜ FrameRun wp (now (input .entry)) (device s (now (array .entry))) (now (output .entry)) (r .number) (device (r .state) (now (array .exit))) (now (output .exit)) ⌝ }
 {
-    let number = frame_number(s, array.len(), input.len(), output.len());
+    let number = frame_number(s, wp, array, input, output);
     if number != 0 {
         return state::refuse(number, s);
     }
+    state::grant(run_accepted(s, wp, array, input, output))
+}
+
+fn cut_number(s: State, wp: bool, array: &[u8], input: &[u8], output: &[u8], mask: &[u8]) -> u32
+    ensures { λ r. ⌜ r ≡ cutNumber wp (now (input .entry)) (now (mask .entry)) (device s (now (array .entry))) (now (output .entry)) ⌝ }
+{
+    let number = frame_number(s, wp, array, input, output);
+    if number != 0 {
+        return number;
+    }
     let c = command::understand::command_of(s, wp, input);
-    // the output shows the array before it changes
-    output::emit(s, c, array, output);
-    effect::change::change(array, effect_of(c), input);
-    state::grant(registers::state_after(s, c))
+    if mask.len() != effect::mask_length(effect_of(c)) {
+        return refusals::WRONG_MASK;
+    }
+    0
 }
 
 // Run a frame whose power is cut, with a mask byte for each array byte it programs or erases; then power-up.
@@ -50,18 +62,11 @@ pub fn run_cut_frame(
     output: &mut [u8],
     mask: &[u8],
 ) -> Answer
-    ensures { λ r. ⌜ CutRun s wp (now (array .entry)) (now (input .entry)) (now (output .entry)) (now (mask .entry)) r (now (array .exit)) (now (output .exit)) ⌝ }
+    ensures { λ r. ⌜ CutRun wp (now (input .entry)) (now (mask .entry)) (device s (now (array .entry))) (now (output .entry)) (r .number) (device (r .state) (now (array .exit))) (now (output .exit)) ⌝ }
 {
-    let number = frame_number(s, array.len(), input.len(), output.len());
+    let number = cut_number(s, wp, array, input, output, mask);
     if number != 0 {
         return state::refuse(number, s);
     }
-    let c = command::understand::command_of(s, wp, input);
-    let e = effect_of(c);
-    if mask.len() != effect::mask_length(e) {
-        return state::refuse(refusals::WRONG_MASK, s);
-    }
-    output::emit(s, c, array, output);
-    effect::change::cut_change(array, e, input, mask);
-    state::grant(state::power::powered_up(registers::state_after(s, c)))
+    state::grant(run_accepted_cut(s, wp, array, input, output, mask))
 }

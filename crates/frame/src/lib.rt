@@ -1,4 +1,5 @@
 // Frames on a chip and its array: run, and interrupted by a power cut.
+pub mod accepted;
 pub mod call;
 
 use command::Command;

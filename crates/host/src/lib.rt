@@ -9,11 +9,11 @@ use state::State;
 ghost use mathlib.Core.Path.{_≡_};
 ghost use Rattle.state.specs.Power.{newChip, powerUp};
 ghost use Rattle.state.specs.Time.{passTime};
+ghost use Rattle.frame.specs.Device.{device};
 ghost use Rattle.frame.specs.Call.{FrameRun, CutRun};
 ghost use Rattle.plan.specs.Update.{PlanUpdated};
 ghost use Rattle.run.specs.Script.{ScriptRun};
 ghost use Rattle.script.specs.Reader.{recordAt};
-ghost use Rattle.host.specs.Lent.{lentAnswer};
 ghost use Rattle.host.specs.Read.{recordOf};
 
 // Make a new chip.
@@ -49,7 +49,7 @@ pub extern "C" fn zeradok_frame(
     frame: &[u8],
     output: &mut [u8],
 ) -> u32
-    ensures { λ r. ⌜ FrameRun (now (chip .entry)) «wp_high» (now (array .entry)) (now (frame .entry)) (now (output .entry)) (lentAnswer r (now (chip .exit))) (now (array .exit)) (now (output .exit)) ⌝ }
+    ensures { λ r. ⌜ FrameRun «wp_high» (now (frame .entry)) (device (now (chip .entry)) (now (array .entry))) (now (output .entry)) r (device (now (chip .exit)) (now (array .exit))) (now (output .exit)) ⌝ }
 {
     let s = *chip;
     let a = frame::call::run_frame(s, wp_high, array, frame, output);
@@ -67,7 +67,7 @@ pub extern "C" fn zeradok_cut_frame(
     output: &mut [u8],
     mask: &[u8],
 ) -> u32
-    ensures { λ r. ⌜ CutRun (now (chip .entry)) «wp_high» (now (array .entry)) (now (frame .entry)) (now (output .entry)) (now (mask .entry)) (lentAnswer r (now (chip .exit))) (now (array .exit)) (now (output .exit)) ⌝ }
+    ensures { λ r. ⌜ CutRun «wp_high» (now (frame .entry)) (now (mask .entry)) (device (now (chip .entry)) (now (array .entry))) (now (output .entry)) r (device (now (chip .exit)) (now (array .exit))) (now (output .exit)) ⌝ }
 {
     let s = *chip;
     let a = frame::call::run_cut_frame(s, wp_high, array, frame, output, mask);
@@ -99,7 +99,7 @@ pub extern "C" fn zeradok_run(
     script: &[u8],
     output: &mut [u8],
 ) -> Ran
-    ensures { λ r. ⌜ ScriptRun chip «wp_high» (now (array .entry)) (now (script .entry)) (now (output .entry)) r (now (array .exit)) (now (output .exit)) ⌝ }
+    ensures { λ r. ⌜ ScriptRun «wp_high» (now (script .entry)) (device chip (now (array .entry))) (now (output .entry)) r (device (r .state) (now (array .exit))) (now (output .exit)) ⌝ }
 {
     run::run_script(chip, wp_high, array, script, output)
 }

@@ -10,7 +10,8 @@ use Rattle.script.specs.Record.{Record, frame, wait}
 use Rattle.common.specs.Limits.{longestScript}
 use Rattle.common.specs.Refusals.{scriptTooLong}
 use Rattle.script.specs.Decode.{faultNumber, Decoded, records, badAt, decode}
-use Rattle.run.specs.Run.{Device, device, step, outputOf, run}
+use Rattle.frame.specs.Device.{Device, device}
+use Rattle.run.specs.Run.{step, outputOf, run}
 use Rattle.text.specs.Text.{hex, decimal, line}
 
 -- how long a listing can be: a frame of n bytes takes 4 + n bytes of the script and 2 n + 3 characters; the last line has 5

@@ -1,6 +1,6 @@
 // One line a frame.
 use script::reader::Found;
-use script::reader::record_at;
+use script::reader::front_at;
 use text::put_hex_line;
 ghost use mathlib.Core.Path.{_≡_};
 ghost use Prim.Native.Nat.{_*_, _≤_};
@@ -22,7 +22,7 @@ pub(crate) fn put_frame_lines(script: &[u8], output: &[u8], text: &mut [u8]) -> 
     let mut shown: usize = 0;
     let mut next_line: usize = 0;
     loop {
-        let found = record_at(script, at);
+        let found = front_at(script, at);
         match found {
             Found::Frame { length, next, .. } => {
                 let end = shown + length;

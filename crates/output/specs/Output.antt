@@ -38,20 +38,20 @@ abbrev pub readAt : ℕ → ℕ → ℕ → (ℕ → ℕ) → ℕ → ℕ
 readAt size address silent m i = since silent i (m ((address + (i - silent)) % size))
 
 -- "bytes 1 to 3: JEDEC, then FF (ours)"
-abbrev pub jedec : State → ℕ → ℕ
-jedec s i = cond (eqb i 1) 0x8c (cond (eqb i 2) (dataOf s .family) (cond (eqb i 3) (dataOf s .capacity) 255))
+abbrev pub jedec : ℕ → ℕ → ℕ → ℕ
+jedec family capacity i = cond (eqb i 1) 0x8c (cond (eqb i 2) family (cond (eqb i 3) capacity 255))
 
 -- "8C and device ID by turns, device ID first if address bit 0 is 1"
-abbrev pub identity : State → Bool → ℕ → ℕ
-identity s odd i = cond (eqb (i % 2) 0) (cond odd (dataOf s .«device_id») 0x8c) (cond odd 0x8c (dataOf s .«device_id»))
+abbrev pub identity : ℕ → Bool → ℕ → ℕ
+identity device odd i = cond (eqb (i % 2) 0) (cond odd device 0x8c) (cond odd 0x8c device)
 
 unfoldable pub shownAt : State → Command → (ℕ → ℕ) → ℕ → ℕ
 shownAt s Ignored m i = 255
 shownAt s ReadStatus m i = since 1 i (statusOf s)
 shownAt s (ReadArray a n) m i = readAt (dataOf s .size) a n m i
-shownAt s ReadJedec m i = jedec s i
+shownAt s ReadJedec m i = jedec (dataOf s .family) (dataOf s .capacity) i
 shownAt s ReadSignature m i = since (dataOf s .preamble) i (dataOf s .signature)
-shownAt s (ReadIdentity odd) m i = since 4 i (identity s odd i)
+shownAt s (ReadIdentity odd) m i = since 4 i (identity (dataOf s .«device_id») odd i)
 shownAt s WriteEnable m i = 255
 shownAt s WriteDisable m i = 255
 shownAt s Arm m i = 255

@@ -2,7 +2,7 @@
 use command::Command;
 use state::State;
 ghost use mathlib.Core.Path.{_≡_};
-ghost use Prim.Native.Nat.{_+_, _-_, _%_, _<_, _≤_};
+ghost use Prim.Native.Nat.{_<_, _≤_};
 ghost use lib.ListN.{length};
 ghost use Rattle.common.specs.Lists.{tab};
 ghost use Rattle.common.specs.Limits.{longestFrame};
@@ -10,42 +10,40 @@ ghost use Rattle.state.specs.State.{dataOf};
 ghost use Rattle.output.specs.Output.{memory, readAt, jedec, identity, shownAt};
 ghost use Rattle.command.specs.Fits.{Fits};
 
-fn array_byte(s: State, array: &[u8], from: u32, at: u8, i: usize) -> u8
-    requires { ⌜ i ≤ longestFrame ⌝ }
-    ensures { λ r. ⌜ r ≡ readAt (dataOf s .size) from at (memory (now (array .entry))) i ⌝ }
+fn array_byte(size: u32, array: &[u8], from: u32, at: u8, i: usize) -> u8
+    requires { ⌜ (0 < size) × (i ≤ longestFrame) ⌝ }
+    ensures { λ r. ⌜ r ≡ readAt size from at (memory (now (array .entry))) i ⌝ }
 {
     let n = at as usize;
     if i < n {
         return 0xff;
     }
-    let size = chip::chip_of(s.chip).size as usize;
-    common::byte_at(array, (from as usize + (i - n)) % size)
+    common::byte_at(array, (from as usize + (i - n)) % size as usize)
 }
 
-fn jedec_byte(s: State, i: usize) -> u8
-    ensures { λ r. ⌜ r ≡ jedec s i ⌝ }
+fn jedec_byte(family: u8, capacity: u8, i: usize) -> u8
+    ensures { λ r. ⌜ r ≡ jedec family capacity i ⌝ }
 {
-    let chip = chip::chip_of(s.chip);
     match i {
         1 => 0x8c,
-        2 => chip.family,
-        3 => chip.capacity,
+        2 => family,
+        3 => capacity,
         _ => 0xff,
     }
 }
 
-fn identity_byte(s: State, odd: bool, i: usize) -> u8
-    ensures { λ r. ⌜ r ≡ identity s odd i ⌝ }
+fn identity_byte(device: u8, odd: bool, i: usize) -> u8
+    ensures { λ r. ⌜ r ≡ identity device odd i ⌝ }
 {
-    let id = chip::chip_of(s.chip).device_id;
     if i % 2 == 0 {
-        if odd { id } else { 0x8c }
+        if odd { device } else { 0x8c }
     } else {
-        if odd { 0x8c } else { id }
+        if odd { 0x8c } else { device }
     }
 }
 
-// Byte i of the output.
+// Byte i of the output. The chip's data is fetched in the arms that use it: so the compiler takes the match out of the loop
+// over the bytes, and a long status read costs no more than its bytes.
 fn shown_at(s: State, c: Command, array: &[u8], i: usize) -> u8
     requires { ⌜ i ≤ longestFrame ⌝ }
     ensures { λ r. ⌜ r ≡ shownAt s c (memory (now (array .entry))) i ⌝ }
@@ -57,8 +55,17 @@ fn shown_at(s: State, c: Command, array: &[u8], i: usize) -> u8
             }
             state::status::status_of(s)
         }
-        Command::ReadArray { from, at } => array_byte(s, array, from, at, i),
-        Command::ReadJedec => jedec_byte(s, i),
+        Command::ReadArray { from, at } => array_byte(
+            chip::chip_of(s.chip).size,
+            array,
+            from,
+            at,
+            i,
+        ),
+        Command::ReadJedec => {
+            let chip = chip::chip_of(s.chip);
+            jedec_byte(chip.family, chip.capacity, i)
+        }
         Command::ReadSignature => {
             let chip = chip::chip_of(s.chip);
             if i < chip.preamble as usize {
@@ -70,7 +77,7 @@ fn shown_at(s: State, c: Command, array: &[u8], i: usize) -> u8
             if i < 4 {
                 return 0xff;
             }
-            identity_byte(s, odd, i)
+            identity_byte(chip::chip_of(s.chip).device_id, odd, i)
         }
         _ => 0xff,
     }
@@ -89,9 +96,9 @@ fn show_each(s: State, c: Command, array: &[u8], output: &mut [u8])
 }
 
 // The array from an address up, after `at` silent bytes: to the top in one run, and on from address 0 in another.
-fn show_array(s: State, from: u32, at: u8, array: &[u8], output: &mut [u8])
-    requires { ⌜ (from < dataOf s .size) × (length (now array) ≡ dataOf s .size) × (length (now output) ≤ longestFrame) ⌝ }
-    ensures { λ _. ⌜ now (output .exit) ≡ tab (length (now (output .entry))) (readAt (dataOf s .size) from at (memory (now (array .entry)))) ⌝ }
+fn show_array(from: u32, at: u8, array: &[u8], output: &mut [u8])
+    requires { ⌜ (from < length (now array)) × (length (now output) ≤ length (now array)) ⌝ }
+    ensures { λ _. ⌜ now (output .exit) ≡ tab (length (now (output .entry))) (readAt (length (now (array .entry))) from at (memory (now (array .entry)))) ⌝ }
 {
     let size = array.len();
     let count = output.len();
@@ -110,7 +117,7 @@ pub fn emit(s: State, c: Command, array: &[u8], output: &mut [u8])
 {
     match c {
         Command::ReadArray { from, at } => {
-            show_array(s, from, at, array, output);
+            show_array(from, at, array, output);
         }
         _ => {
             show_each(s, c, array, output);

@@ -10,11 +10,11 @@ use Rattle.state.specs.declared.State.{State}
 use Rattle.state.specs.State.{withWel, withArmed}
 use Rattle.state.specs.Power.{powerUp}
 use Rattle.script.specs.Record.{Record, frame, encode}
-use Rattle.effect.specs.Effect.{maskLength}
-use Rattle.frame.specs.Call.{effectAt, frameNumber, cutAnswer, cutArray}
+use Rattle.frame.specs.Device.{Device, withState}
+use Rattle.frame.specs.Call.{frameNumber, cutNumber, cutDevice}
 use Rattle.common.specs.Bits.{Bytes, bitAt}
 use Rattle.run.specs.declared.Ran.{Ran}
-use Rattle.run.specs.Run.{Device, device, run}
+use Rattle.run.specs.Run.{run}
 use Rattle.script.specs.Decode.{recordsOf}
 use Rattle.plan.specs.declared.Planned.{Planned}
 use Rattle.plan.specs.Plan.{planRecords}
@@ -48,32 +48,28 @@ abbrev pub stateAfterPlan : List Record → State → State
 stateAfterPlan [] s = s
 stateAfterPlan (r ∷ rs) s = withArmed (withWel s false) false
 
--- the records run uncut on a chip leave this array, and no call on the way is refused: no frame, and no power-up where the power might go
+-- the records run uncut on a chip leave this array, and no call on the way is refused: no frame with an output of its length, and no power-up where
+-- the power might go
 pub record Completes (records : List Record) (wp : Bool) (chip : Device) (array : List ℕ) : Type 0 where
   pub array-is : run wp records chip .array ≡ array
   pub state-is : run wp records chip .state ≡ stateAfterPlan records (chip .state)
   pub frames-accepted : (before after : List Record) (f : List ℕ) → records ≡ before ++ (frame f ∷ after)
-      → frameNumber (run wp before chip .state) (length (run wp before chip .array)) (length f) (length f) ≡ 0
+      → (output : List ℕ) → length output ≡ length f → frameNumber wp f (run wp before chip) output ≡ 0
   pub powers-up : (before after : List Record) → records ≡ before ++ after → powerUp (run wp before chip .state) .number ≡ 0
 
 -- ---- a plan cut short
 
 -- the power goes and comes back: the call "power it up again"
 abbrev pub powered : Device → Device
-powered chip = device (powerUp (chip .state) .state) (chip .array)
-
--- it goes while a frame is run: the call "run an interrupted frame", its output a buffer of the frame's length
-abbrev pub interrupted : Bool → List ℕ → List ℕ → Device → Device
-interrupted wp f mask chip =
-    device (cutAnswer (chip .state) wp (chip .array) f f mask .state) (cutArray (chip .state) wp (chip .array) f f mask)
+powered chip = withState chip (powerUp (chip .state) .state)
 
 -- "Cut the power between any two records, or inside any programming, with any part of the bits due to fall having fallen": the chip powered up.
--- Between: also before the first record and behind the last. Inside: any frame, with any mask of "one byte for each array byte the frame programs"
+-- Between: also before the first record and behind the last. Inside: the call "run an interrupted frame", for any frame, with any mask of bytes and any
+-- output that the call accepts
 pub data CutShort (records : List Record) (wp : Bool) (chip : Device) : Device → Type 0 where
   between : (before after : List Record) → records ≡ before ++ after → CutShort records wp chip (powered (run wp before chip))
-  inside : (before after : List Record) (f mask : List ℕ) → records ≡ before ++ (frame f ∷ after) → Bytes mask
-      → length mask ≡ maskLength (effectAt (run wp before chip .state) wp f)
-      → CutShort records wp chip (interrupted wp f mask (run wp before chip))
+  inside : (before after : List Record) (f mask output : List ℕ) → records ≡ before ++ (frame f ∷ after) → Bytes mask
+      → cutNumber wp f mask (run wp before chip) output ≡ 0 → CutShort records wp chip (cutDevice wp f mask (run wp before chip) output)
 
 -- "planning again is accepted, and that plan, run uncut, leaves the region exactly as wanted and the rest as it was"
 pub record Recovers (plan : Planner) (wp : Bool) (array : List ℕ) (start : ℕ) (wanted : List ℕ) (room : ℕ) (chip : Device) : Type 0 where
@@ -83,28 +79,30 @@ pub record Recovers (plan : Planner) (wp : Bool) (array : List ℕ) (start : ℕ
 
 -- ---- demand 3
 
-pub record PowerCutSafe (plan : Planner) (s : State) (wp : Bool) (array : List ℕ) (start : ℕ) (wanted : List ℕ) (room : ℕ) : Type 0 where
+-- of the plan that is made for a chip, at a level of WP
+pub record PowerCutSafe (plan : Planner) (wp : Bool) (chip : Device) (start : ℕ) (wanted : List ℕ) (room : ℕ) : Type 0 where
   -- "An uncut first run does so too."
-  pub uncut : Completes (plan s array start wanted) wp (device s array) (updated array start wanted)
+  pub uncut : Completes (plan (chip .state) (chip .array) start wanted) wp chip (updated (chip .array) start wanted)
   -- "Powered up, at the same level and with 22 bytes more room"
-  pub cut : (chip : Device) → CutShort (plan s array start wanted) wp (device s array) chip → Recovers plan wp array start wanted (room + 22) chip
+  pub cut : (after : Device) → CutShort (plan (chip .state) (chip .array) start wanted) wp chip after
+      → Recovers plan wp (chip .array) start wanted (room + 22) after
 
 -- ---- for the layers above: the chip behind a plan
 
 -- run to its end
-unfoldable pub Finished : State → Bool → List ℕ → ℕ → List ℕ → Device → Type 0
-Finished s wp array start wanted chip = chip ≡ run wp (planRecords s array start wanted) (device s array)
+unfoldable pub Finished : Bool → Device → ℕ → List ℕ → Device → Type 0
+Finished wp chip start wanted after = after ≡ run wp (planRecords (chip .state) (chip .array) start wanted) chip
 
 -- cut somewhere, and powered up
-unfoldable pub PowerLost : State → Bool → List ℕ → ℕ → List ℕ → Device → Type 0
-PowerLost s wp array start wanted chip = CutShort (planRecords s array start wanted) wp (device s array) chip
+unfoldable pub PowerLost : Bool → Device → ℕ → List ℕ → Device → Type 0
+PowerLost wp chip start wanted after = CutShort (planRecords (chip .state) (chip .array) start wanted) wp chip after
 
 -- ---- the same of the calls
 
 -- A plan's answer and buffer, and what running that script answers and leaves: accepted, the update complete, the counts as planned.
-pub record RunAsPlanned (s : State) (array : List ℕ) (start : ℕ) (wanted : List ℕ) (planned : Planned) (ran : Ran) (arrayAfter : List ℕ) : Type 0 where
+pub record RunAsPlanned (chip : Device) (start : ℕ) (wanted : List ℕ) (planned : Planned) (ran : Ran) (after : Device) : Type 0 where
   pub number : ran .number ≡ 0
-  pub state-is : ran .state ≡ stateAfterPlan (planRecords s array start wanted) s
-  pub array-is : arrayAfter ≡ updated array start wanted
+  pub state-is : ran .state ≡ stateAfterPlan (planRecords (chip .state) (chip .array) start wanted) (chip .state)
+  pub array-is : after .array ≡ updated (chip .array) start wanted
   pub frames-are : ran .frames ≡ planned .frames
   pub microseconds-are : ran .microseconds ≡ planned .microseconds

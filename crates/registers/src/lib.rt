@@ -3,8 +3,6 @@ use command::Command;
 use state::State;
 ghost use mathlib.Core.Path.{_≡_};
 ghost use Prim.Native.Nat.{_<_};
-ghost use mathlib.Core.Bool.{true, false};
-ghost use Rattle.state.specs.State.{withLeft, withWel, withArmed, withPowerDown, withAai};
 ghost use Rattle.registers.specs.Registers.{has, withStatusByte, stateAfter};
 ghost use Rattle.command.specs.Fits.{Fits};
 
@@ -26,89 +24,43 @@ fn with_status_byte(s: State, byte: u8) -> State
     t
 }
 
-// A write cycle begins.
-fn busy_for(s: State, time: u32) -> State
-    ensures { λ r. ⌜ r ≡ withLeft s time ⌝ }
-{
-    let mut t = s;
-    t.left = time;
-    t
-}
-
-// A word is being programmed, and AAI goes on behind it.
-fn in_aai(s: State, next: u32) -> State
-    ensures { λ r. ⌜ r ≡ withAai (withLeft s 7) true next ⌝ }
-{
-    let mut t = busy_for(s, 7);
-    t.aai = true;
-    t.next = next;
-    t
-}
-
-fn enabled(s: State) -> State
-    ensures { λ r. ⌜ r ≡ withArmed (withWel s true) true ⌝ }
-{
-    let mut t = s;
-    t.wel = true;
-    t.armed = true;
-    t
-}
-
-fn disabled(s: State) -> State
-    ensures { λ r. ⌜ r ≡ withAai (withWel s false) false 0 ⌝ }
-{
-    let mut t = s;
-    t.wel = false;
-    t.aai = false;
-    t.next = 0;
-    t
-}
-
-fn with_armed(s: State, armed: bool) -> State
-    ensures { λ r. ⌜ r ≡ withArmed s armed ⌝ }
-{
-    let mut t = s;
-    t.armed = armed;
-    t
-}
-
-fn with_power_down(s: State, power_down: bool) -> State
-    ensures { λ r. ⌜ r ≡ withPowerDown s «power_down» ⌝ }
-{
-    let mut t = s;
-    t.power_down = power_down;
-    t
-}
-
-// A status write takes no time.
-fn status_written(s: State, byte: u8) -> State
-    ensures { λ r. ⌜ r ≡ withWel (withStatusByte s byte) false ⌝ }
-{
-    let mut t = with_status_byte(s, byte);
-    t.wel = false;
-    t
-}
-
+// "Every taken frame clears armed too, but WREN and EWSR, which set it."
 pub fn state_after(s: State, c: Command) -> State
     requires { ⌜ Fits s c ⌝ }
     ensures { λ r. ⌜ r ≡ stateAfter s c ⌝ }
 {
-    let quiet = with_armed(s, false);
+    let mut t = s;
+    t.armed = false;
     match c {
-        Command::WriteEnable => enabled(s),
-        Command::WriteDisable => disabled(quiet),
-        Command::Arm => with_armed(s, true),
-        Command::WriteStatus(byte) => status_written(quiet, byte),
-        Command::Erase { time, .. } => busy_for(quiet, time),
-        Command::ProgramByte { .. } => busy_for(quiet, 7),
-        Command::ProgramPage { .. } => busy_for(quiet, 1500),
-        Command::ProgramWord { address, .. } => in_aai(quiet, address + 2),
-        Command::Sleep => with_power_down(quiet, true),
-        Command::ReadSignature => with_power_down(quiet, false),
-        Command::Ignored => quiet,
-        Command::ReadStatus => quiet,
-        Command::ReadArray { .. } => quiet,
-        Command::ReadJedec => quiet,
-        Command::ReadIdentity(_) => quiet,
+        Command::WriteEnable => {
+            t.wel = true;
+            t.armed = true;
+        }
+        Command::WriteDisable => {
+            t.wel = false;
+            t.aai = false;
+            t.next = 0;
+        }
+        Command::Arm => t.armed = true,
+        Command::WriteStatus(byte) => {
+            t = with_status_byte(t, byte);
+            t.wel = false;
+        }
+        Command::Erase { time, .. } => t.left = time,
+        Command::ProgramByte { .. } => t.left = 7,
+        Command::ProgramPage { .. } => t.left = 1500,
+        Command::ProgramWord { address, .. } => {
+            t.left = 7;
+            t.aai = true;
+            t.next = address + 2;
+        }
+        Command::Sleep => t.power_down = true,
+        Command::ReadSignature => t.power_down = false,
+        Command::Ignored => {}
+        Command::ReadStatus => {}
+        Command::ReadArray { .. } => {}
+        Command::ReadJedec => {}
+        Command::ReadIdentity(_) => {}
     }
+    t
 }

@@ -1,27 +1,19 @@
--- Records run on a chip (01, "Scripts and plans"): each frame and each wait by the definition of its own call, one after another.
+-- Records run on a chip (01, "Scripts and plans"): one after another, each frame as an accepted one, each wait as time that passes.
 use mathlib.Core.Bool.{Bool}
 use mathlib.Core.List.{List, [], _∷_, _++_}
 use Prim.Native.Nat.{ℕ}
 use Rattle.script.specs.Record.{Record, frame, wait}
-use Rattle.state.specs.declared.State.{State}
-use Rattle.state.specs.Time.{passTime}
-use Rattle.frame.specs.Call.{frameAnswer, frameArray, frameOutput}
+use Rattle.state.specs.Time.{timePassed}
+use Rattle.frame.specs.Device.{Device, withState}
+use Rattle.frame.specs.Ran.{ranDevice, shown}
 
--- "A chip is a state plus a lent array"
-pub record Device : Type 0 where
-  pub state : State
-  pub array : List ℕ
-
-abbrev pub device : State → List ℕ → Device
-device s array = record { state = s; array = array }
-
--- one record; a frame's output is a buffer of the frame's length
+-- one record
 unfoldable pub step : Bool → Record → Device → Device
-step wp (frame f) d = device (frameAnswer (d .state) wp (d .array) f f .state) (frameArray (d .state) wp (d .array) f f)
-step wp (wait n) d = device (passTime (d .state) n .state) (d .array)
+step wp (frame f) d = ranDevice wp f d
+step wp (wait n) d = withState d (timePassed (d .state) n)
 
 unfoldable pub outputOf : Bool → Record → Device → List ℕ
-outputOf wp (frame f) d = frameOutput (d .state) wp (d .array) f f
+outputOf wp (frame f) d = shown wp f d
 outputOf wp (wait n) d = []
 
 -- "Running takes one WP level for all frames and lays their outputs one after another."

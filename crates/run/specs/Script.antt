@@ -1,72 +1,64 @@
 -- The call "run a script" (01, "Scripts and plans"): its refusals in the order checked, and what it answers and leaves.
 use mathlib.Core.Path.{_≡_}
-use mathlib.Core.Bool.{Bool, cond, not}
+use mathlib.Core.Bool.{Bool, not}
 use mathlib.Core.List.{List, [], _∷_}
-use Prim.Native.Nat.{ℕ}
+use Prim.Native.Nat.{ℕ, _≤_}
 use lib.Dec.{ltb, eqb}
 use lib.ListN.{length}
-use Rattle.common.specs.Refusals.{stateNotSound, wrongArray, wrongOutput, scriptTooLong, unknownMark, wrongLength, cutShort, firstOf, accepted}
-use Rattle.state.specs.declared.State.{State}
-use Rattle.state.specs.State.{dataOf}
-use Rattle.state.specs.Soundness.{isSound}
-use Rattle.script.specs.declared.survey.Survey.{Survey}
-use Rattle.script.specs.Record.{Record, framesIn, microsecondsIn, outputLength}
 use Rattle.common.specs.Limits.{longestScript}
-use Rattle.script.specs.Decode.{isUnknownMark, isWrongLength, isCutShort, isBad, decode, recordsOf}
+use Rattle.common.specs.Refusals.{stateNotSound, wrongArray, wrongOutput, scriptTooLong, unknownMark, wrongLength, cutShort, firstOf, accepted}
+use Rattle.state.specs.State.{dataOf}
+use Rattle.state.specs.Soundness.{isSound, Sound}
+use Rattle.script.specs.Record.{Record, framesIn, microsecondsIn, outputLength}
+use Rattle.script.specs.Decode.{isUnknownMark, isWrongLength, isCutShort, records, isBad, decode, recordsOf}
+use Rattle.frame.specs.Device.{Device}
 use Rattle.run.specs.declared.Ran.{Ran}
-use Rattle.run.specs.Run.{device, run, outputs}
+use Rattle.run.specs.Run.{run, outputs}
 
--- by the array's length, the script itself and the output's length: "a script is checked 1, 2, 11, 12, 4"
-abbrev pub scriptRefusals : State → ℕ → List ℕ → ℕ → List (ℕ × Bool)
-scriptRefusals s size script out =
-    (stateNotSound, not (isSound s))
-    ∷ (wrongArray, not (eqb size (dataOf s .size)))
+-- the level of WP, the script, the chip and the lent output: "a script is checked 1, 2, 11, 12, 4"
+abbrev pub scriptRefusals : Bool → List ℕ → Device → List ℕ → List (ℕ × Bool)
+scriptRefusals wp script d output =
+    (stateNotSound, not (isSound (d .state)))
+    ∷ (wrongArray, not (eqb (length (d .array)) (dataOf (d .state) .size)))
     ∷ (scriptTooLong, ltb longestScript (length script))
     ∷ (unknownMark, isBad isUnknownMark (decode script))
     ∷ (wrongLength, isBad isWrongLength (decode script))
     ∷ (cutShort, isBad isCutShort (decode script))
-    ∷ (wrongOutput, not (eqb out (outputLength (recordsOf script))))
+    ∷ (wrongOutput, not (eqb (length output) (outputLength (recordsOf script))))
     ∷ []
 
-unfoldable pub scriptNumber : State → ℕ → List ℕ → ℕ → ℕ
-scriptNumber s size script out = firstOf (scriptRefusals s size script out)
+unfoldable pub scriptNumber : Bool → List ℕ → Device → List ℕ → ℕ
+scriptNumber wp script d output = firstOf (scriptRefusals wp script d output)
 
--- the same by the script's survey, whose number is 11 or 12, or 0
-unfoldable pub surveyedNumber : State → ℕ → Survey → ℕ → ℕ
-surveyedNumber s size survey out =
-    cond (not (isSound s)) stateNotSound
-    (cond (not (eqb size (dataOf s .size))) wrongArray
-    (cond (not (eqb (survey .number) 0)) (survey .number) (cond (not (eqb out (survey .output))) wrongOutput 0)))
+-- what holds where none of them does
+pub record ScriptAccepted (wp : Bool) (script : List ℕ) (d : Device) (output : List ℕ) : Type 0 where
+  pub sound : Sound (d .state)
+  pub sized : length (d .array) ≡ dataOf (d .state) .size
+  pub short : length script ≤ longestScript
+  pub list : List Record
+  pub decoded : decode script ≡ records list
+  pub same : length output ≡ outputLength list
 
--- "It reports frames run and microseconds waited."
-abbrev pub ranRecords : State → List Record → Ran
-ranRecords after rs = record { number = 0; state = after; frames = framesIn rs; microseconds = microsecondsIn rs }
+-- what an accepted script leaves: its records run from the first to the last
+pub record ScriptDone (wp : Bool) (script : List ℕ) (d : Device) (after : Device) (outputAfter : List ℕ) : Type 0 where
+  pub device-is : after ≡ run wp (recordsOf script) d
+  pub output-is : outputAfter ≡ outputs wp (recordsOf script) d
 
--- a refusal "returns the given state, .. counts 0"
-abbrev pub refusedRun : ℕ → State → Ran
-refusedRun number s = record { number = number; state = s; frames = 0; microseconds = 0 }
+unfoldable pub scriptDevice : Bool → List ℕ → Device → List ℕ → Device
+scriptDevice wp script d output = accepted (scriptNumber wp script d output) (run wp (recordsOf script) d) d
 
-unfoldable pub scriptAnswer : State → Bool → List ℕ → List ℕ → List ℕ → Ran
-scriptAnswer s wp array script output =
-    accepted (scriptNumber s (length array) script (length output))
-    (ranRecords (run wp (recordsOf script) (device s array) .state) (recordsOf script))
-    (refusedRun (scriptNumber s (length array) script (length output)) s)
+unfoldable pub scriptOutput : Bool → List ℕ → Device → List ℕ → List ℕ
+scriptOutput wp script d output = accepted (scriptNumber wp script d output) (outputs wp (recordsOf script) d) output
 
-unfoldable pub scriptArray : State → Bool → List ℕ → List ℕ → List ℕ → List ℕ
-scriptArray s wp array script output =
-    accepted (scriptNumber s (length array) script (length output)) (run wp (recordsOf script) (device s array) .array) array
+-- "It reports frames run and microseconds waited."; a refusal's "counts" are 0
+unfoldable pub scriptCount : (List Record → ℕ) → Bool → List ℕ → Device → List ℕ → ℕ
+scriptCount count wp script d output = accepted (scriptNumber wp script d output) (count (recordsOf script)) 0
 
-unfoldable pub scriptOutput : State → Bool → List ℕ → List ℕ → List ℕ → List ℕ
-scriptOutput s wp array script output =
-    accepted (scriptNumber s (length array) script (length output)) (outputs wp (recordsOf script) (device s array)) output
-
--- what the call answers and leaves
-pub record ScriptRun (s : State) (wp : Bool) (array script output : List ℕ) (ran : Ran) (arrayAfter outputAfter : List ℕ) : Type 0 where
-  pub answers : ran ≡ scriptAnswer s wp array script output
-  pub array-is : arrayAfter ≡ scriptArray s wp array script output
-  pub output-is : outputAfter ≡ scriptOutput s wp array script output
-
--- what the records leave, run from the first to the last
-pub record RecordsRun (s : State) (wp : Bool) (array script : List ℕ) (after : State) (arrayAfter outputAfter : List ℕ) : Type 0 where
-  pub device-is : device after arrayAfter ≡ run wp (recordsOf script) (device s array)
-  pub output-is : outputAfter ≡ outputs wp (recordsOf script) (device s array)
+-- what the call answers and leaves; the answer has the chip's state
+pub record ScriptRun (wp : Bool) (script : List ℕ) (d : Device) (output : List ℕ) (ran : Ran) (after : Device) (outputAfter : List ℕ) : Type 0 where
+  pub number-is : ran .number ≡ scriptNumber wp script d output
+  pub state-is : ran .state ≡ scriptDevice wp script d output .state
+  pub frames-are : ran .frames ≡ scriptCount framesIn wp script d output
+  pub microseconds-are : ran .microseconds ≡ scriptCount microsecondsIn wp script d output
+  pub device-is : after ≡ scriptDevice wp script d output
+  pub output-is : outputAfter ≡ scriptOutput wp script d output

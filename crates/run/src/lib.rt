@@ -5,7 +5,9 @@ use common::refusals;
 use script::survey::Survey;
 use state::State;
 ghost use mathlib.Core.Path.{_≡_};
-ghost use Rattle.run.specs.Script.{surveyedNumber, refusedRun, ScriptRun};
+ghost use Rattle.frame.specs.Device.{device};
+ghost use Rattle.script.specs.Survey.{surveyOf};
+ghost use Rattle.run.specs.Script.{scriptNumber, ScriptRun};
 
 // What running a script answers: number 0 with the chip's state and the counts, or the refusal's number with the given state.
 #[repr(C)]
@@ -16,44 +18,46 @@ pub struct Ran {
     pub microseconds: u64,
 }
 
-// By the array's length, the script's survey and the output's length.
-fn script_number(s: State, size: usize, survey: Survey, output: usize) -> u32
-    ensures { λ r. ⌜ r ≡ surveyedNumber s size survey output ⌝ }
+// The script's own refusals are its survey's.
+fn script_number(
+    s: State,
+    wp: bool,
+    array: &[u8],
+    script: &[u8],
+    survey: Survey,
+    output: &[u8],
+) -> u32
+    requires { ⌜ survey ≡ surveyOf (now script) ⌝ }
+    ensures { λ r. ⌜ r ≡ scriptNumber wp (now (script .entry)) (device s (now (array .entry))) (now (output .entry)) ⌝ }
 {
     if !state::soundness::is_sound(s) {
         return refusals::STATE_NOT_SOUND;
     }
-    if size != chip::chip_of(s.chip).size as usize {
+    if array.len() != chip::chip_of(s.chip).size as usize {
         return refusals::WRONG_ARRAY;
     }
     if survey.number != 0 {
         return survey.number;
     }
-    if output != survey.output {
+    if output.len() != survey.output {
         return refusals::WRONG_OUTPUT;
     }
     0
 }
 
-fn refused_run(number: u32, state: State) -> Ran
-    ensures { λ r. ⌜ r ≡ refusedRun number state ⌝ }
-{
-    Ran {
-        number,
-        state,
-        frames: 0,
-        microseconds: 0,
-    }
-}
-
 // Run a script, with one WP level for all its frames. Every record is checked before the first is run.
 pub fn run_script(s: State, wp: bool, array: &mut [u8], script: &[u8], output: &mut [u8]) -> Ran
-    ensures { λ r. ⌜ ScriptRun s wp (now (array .entry)) (now (script .entry)) (now (output .entry)) r (now (array .exit)) (now (output .exit)) ⌝ }
+    ensures { λ r. ⌜ ScriptRun wp (now (script .entry)) (device s (now (array .entry))) (now (output .entry)) r (device (r .state) (now (array .exit))) (now (output .exit)) ⌝ }
 {
     let survey = script::survey::survey_of(script);
-    let number = script_number(s, array.len(), survey, output.len());
+    let number = script_number(s, wp, array, script, survey, output);
     if number != 0 {
-        return refused_run(number, s);
+        return Ran {
+            number,
+            state: s,
+            frames: 0,
+            microseconds: 0,
+        };
     }
     let state = records::run_records(s, wp, array, script, output);
     Ran {

@@ -9,7 +9,9 @@ use Rattle.state.specs.declared.State.{State}
 use Rattle.state.specs.State.{dataOf}
 use Rattle.state.specs.Protection.{firstProtected}
 use Rattle.state.specs.Time.{passTime}
-use Rattle.frame.specs.Call.{frameAnswer, frameArray, frameOutput}
+use Rattle.frame.specs.Device.{Device, device, withState}
+use Rattle.frame.specs.Ran.{ranDevice}
+use Rattle.frame.specs.Call.{FrameRun}
 use Rattle.script.specs.Record.{encode, framesIn, microsecondsIn}
 use Rattle.plan.specs.Refusals.{planRefusal}
 use Rattle.plan.specs.Update.{givenRecords}
@@ -26,21 +28,20 @@ pub data Step : Type 0 where
   -- a plan: start, wanted bytes, room; its script, frames and microseconds
   plans : ℕ → List ℕ → ℕ → List ℕ → ℕ → ℕ → Step
 
--- by the public calls' own definitions; the output's buffer is any of the frame's length
-abbrev pub Runs : State → List ℕ → List Step → Type 0
-Runs s array [] = Unit {0}
-Runs s array (send f output ∷ steps) =
-    ((frameAnswer s true array f f .number ≡ 0) × (frameOutput s true array f f ≡ output))
-    × Runs (frameAnswer s true array f f .state) (frameArray s true array f f) steps
-Runs s array (pass n ∷ steps) = (passTime s n .number ≡ 0) × Runs (passTime s n .state) array steps
-Runs s array (byteIs address byte ∷ steps) = (getD array address 0 ≡ byte) × Runs s array steps
-Runs s array (protects address answer ∷ steps) = (leb (firstProtected s) address ≡ answer) × Runs s array steps
-Runs s array (plans start wanted room script frames microseconds ∷ steps) =
-    ((planRefusal s true array start wanted room ≡ 0)
-    × (encode (givenRecords s true array start wanted room) ≡ script)
-    × (framesIn (givenRecords s true array start wanted room) ≡ frames)
-    × (microsecondsIn (givenRecords s true array start wanted room) ≡ microseconds))
-    × Runs s array steps
+-- by the public calls' own statements; a frame's output buffer is any of the frame's length
+abbrev pub Runs : Device → List Step → Type 0
+Runs d [] = Unit {0}
+Runs d (send f output ∷ steps) =
+    ((buffer : List ℕ) → length buffer ≡ length f → FrameRun true f d buffer 0 (ranDevice true f d) output) × Runs (ranDevice true f d) steps
+Runs d (pass n ∷ steps) = (passTime (d .state) n .number ≡ 0) × Runs (withState d (passTime (d .state) n .state)) steps
+Runs d (byteIs address byte ∷ steps) = (getD (d .array) address 0 ≡ byte) × Runs d steps
+Runs d (protects address answer ∷ steps) = (leb (firstProtected (d .state)) address ≡ answer) × Runs d steps
+Runs d (plans start wanted room script frames microseconds ∷ steps) =
+    ((planRefusal (d .state) true (d .array) start wanted room ≡ 0)
+    × (encode (givenRecords (d .state) true (d .array) start wanted room) ≡ script)
+    × (framesIn (givenRecords (d .state) true (d .array) start wanted room) ≡ frames)
+    × (microsecondsIn (givenRecords (d .state) true (d .array) start wanted room) ≡ microseconds))
+    × Runs d steps
 
 pub record Session : Type 0 where
   pub state : State
@@ -52,4 +53,4 @@ pub record Session : Type 0 where
 abbrev pub Holds : Session → Type 0
 Holds x =
     (array : List ℕ) → length array ≡ dataOf (x .state) .size → ((k : ℕ) → k < length array → getD array k 0 ≡ x .fill)
-    → Runs (x .state) array (x .steps)
+    → Runs (device (x .state) array) (x .steps)

@@ -98,8 +98,9 @@ fn wait_at(script: &[u8], offset: usize) -> Found
     }
 }
 
-// What stands at an offset of a script: the end, or a record by its mark.
-fn front_at(script: &[u8], offset: usize) -> Found
+// What stands at an offset of a script: the end, or a record by its mark. For loops over a script that have tested
+// its length and stay inside it; `record_at` makes both tests itself.
+pub fn front_at(script: &[u8], offset: usize) -> Found
     requires { ⌜ (offset ≤ length (now script)) × (length (now script) ≤ longestScript) ⌝ }
     ensures { λ r. ⌜ r ≡ answer offset (front (drop offset (now (script .entry)))) ⌝ }
 {

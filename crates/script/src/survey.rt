@@ -1,6 +1,6 @@
 // A whole script, looked through before it is run.
 use super::reader::Found;
-use super::reader::record_at;
+use super::reader::front_at;
 use common::limits::LONGEST_SCRIPT;
 use common::refusals;
 ghost use mathlib.Core.Path.{_≡_};
@@ -53,7 +53,7 @@ pub fn survey_of(script: &[u8]) -> Survey
     let mut microseconds: u64 = 0;
     let mut output: usize = 0;
     loop {
-        let found = record_at(script, at);
+        let found = front_at(script, at);
         match found {
             Found::Frame { length, next, .. } => {
                 frames += 1;

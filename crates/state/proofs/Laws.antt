@@ -1,5 +1,6 @@
 pub mod Answer
 pub mod Protection
+pub mod Clauses
 pub mod Soundness
 pub mod Power
 pub mod Time

@@ -1,4 +1,4 @@
-// "A state is sound when": the test that every call makes of the state it is given.
+// "A state is sound when": the test that every call makes of the state it is given. The first clause that fails ends it.
 use crate::State;
 ghost use mathlib.Core.Path.{_≡_};
 ghost use Rattle.state.specs.Soundness.{allOf, registerClauses, aaiClauses, isSound};
@@ -6,37 +6,78 @@ ghost use Rattle.state.specs.Soundness.{allOf, registerClauses, aaiClaus
 fn registers_sound(s: State) -> bool
     ensures { λ r. ⌜ r ≡ allOf (registerClauses s) ⌝ }
 {
+    if !chip::is_known(s.chip) {
+        return false;
+    }
+    if 7 < s.bp {
+        return false;
+    }
     let chip = chip::chip_of(s.chip);
-    let busy = 0 < s.left;
-    chip::is_known(s.chip)
-        & (s.bp <= 7)
-        & (s.left <= chip.chip_time)
-        & (!busy | s.wel)
-        & (!busy | !s.armed)
-        & (!busy | !s.power_down)
-        & (!s.armed | !s.power_down)
-        & (!s.armed | (chip.ewsr | s.wel))
-        & (!s.tb | chip.top_bottom)
-        & (!s.power_down | chip.sleeps)
-        & (!s.aai | chip.aai)
+    // busy
+    if 0 < s.left {
+        if chip.chip_time < s.left {
+            return false;
+        }
+        if !s.wel | s.armed | s.power_down {
+            return false;
+        }
+    }
+    if s.armed {
+        if s.power_down {
+            return false;
+        }
+        if !(chip.ewsr | s.wel) {
+            return false;
+        }
+    }
+    if s.tb & !chip.top_bottom {
+        return false;
+    }
+    if s.power_down & !chip.sleeps {
+        return false;
+    }
+    if s.aai & !chip.aai {
+        return false;
+    }
+    true
 }
 
 fn aai_sound(s: State) -> bool
     ensures { λ r. ⌜ r ≡ allOf (aaiClauses s) ⌝ }
 {
+    if !s.aai {
+        return s.next == 0;
+    }
+    if !s.wel {
+        return false;
+    }
+    if s.armed {
+        return false;
+    }
+    if 7 < s.left {
+        return false;
+    }
+    if s.next % 2 != 0 {
+        return false;
+    }
+    if s.next < 2 {
+        return false;
+    }
     let first = crate::protection::first_protected(s);
-    (s.aai | (s.next == 0))
-        & (!s.aai | s.wel)
-        & (!s.aai | !s.armed)
-        & (!s.aai | (s.left <= 7))
-        & (!s.aai | (s.next % 2 == 0))
-        & (!s.aai | (2 <= s.next))
-        & (!s.aai | (s.next <= first))
-        & (!s.aai | ((0 < s.left) | (s.next < first)))
+    if first < s.next {
+        return false;
+    }
+    if 0 < s.left {
+        return true;
+    }
+    s.next < first
 }
 
 pub fn is_sound(s: State) -> bool
     ensures { λ r. ⌜ r ≡ isSound s ⌝ }
 {
-    registers_sound(s) & aai_sound(s)
+    if !registers_sound(s) {
+        return false;
+    }
+    aai_sound(s)
 }

@@ -22,7 +22,7 @@ fn cycle_ended(s: State) -> State
     t
 }
 
-fn time_passed(s: State, n: u32) -> State
+pub fn time_passed(s: State, n: u32) -> State
     ensures { λ r. ⌜ r ≡ timePassed s n ⌝ }
 {
     if n < s.left {

@@ -19,6 +19,9 @@ pub and-off : (a b : Bool) → a && b ≡ false → a ≡ true → b ≡ false
 and-off true b e h = e
 and-off false b e h = absurd (false≢true h)
 
+pub and-on : (a b : Bool) → a ≡ true → a && b ≡ b
+and-on a b h = rw h refl
+
 pub and-none : (a b : Bool) → a ≡ false → a && b ≡ false
 and-none a b h = rw h refl
 
@@ -42,6 +45,9 @@ or-none-l false b e = refl
 pub or-none-r : (a b : Bool) → a || b ≡ false → b ≡ false
 or-none-r true b e = absurd (true≢false e)
 or-none-r false b e = e
+
+pub or-none-i : {a b : Bool} → a ≡ false → b ≡ false → a || b ≡ false
+or-none-i p q = rw (p, q) refl
 
 -- "not a, or b" is "a implies b"
 pub implies-elim : (a b : Bool) → not a || b ≡ true → a ≡ true → b ≡ true

@@ -1,18 +1,16 @@
--- The laws of `mapi`, `tab`, `upTo` and `onRun`: one place at a time, and one turn of a loop.
+-- The laws of `mapi`, `tab` and `upTo`: one place at a time, and one turn of a loop.
 -- Assumes nothing.
 use mathlib.Core.Path.{_≡_, refl, sym, ap, _∙_}
-use mathlib.Core.Bool.{and-false}
 use mathlib.Core.List.{List, [], _∷_}
 use mathlib.Core.Logic.{⊎-elim, _⊎_, inl, inr}
 use Prim.Native.Nat.{ℕ, zero, suc, _+_, _≤_, _<_}
 use native.Mathlib.Nat.{le-of-suc-le-suc, not-suc-le-zero}
 use native.Mathlib.Omega.{arith}
 use native.Mathlib.Decide.{ℕ-discrete, decLt}
-use lib.Dec.{leb}
 use lib.ListN.{length, getD, set, length-set}
 use lib.Seq.{ext-getD, getD-set-same, getD-set-other}
-use borrow.Author.Tests.{lt-ltb, le-ltb, le-leb, lt-leb}
-use Rattle.common.specs.Lists.{mapi, tab, upTo, onRun}
+use borrow.Author.Tests.{lt-ltb, le-ltb}
+use Rattle.common.specs.Lists.{mapi, tab, upTo}
 
 pub split : (k i : ℕ) → (k < i) ⊎ (i ≤ k)
 split k i = elim (decLt k i) [ yes h ↦ inl h | no h ↦ inr (omega arith) ]
@@ -49,6 +47,11 @@ pub mapi-id : (f : ℕ → ℕ → ℕ) (l : List ℕ) → ((k : ℕ) → k < le
 mapi-id f l h =
     ext-getD 0 (mapi f l) l (length-mapi f l)
     (λ k lt. let b : k < length l = omega (arith, length-mapi f l) in getD-mapi f l k 0 b ∙ h k b)
+
+-- one effect after another
+pub mapi-mapi : (f g : ℕ → ℕ → ℕ) (l : List ℕ) → mapi g (mapi f l) ≡ mapi (λ k x. g k (f k x)) l
+mapi-mapi f g [] = refl
+mapi-mapi f g (x ∷ xs) = ap (λ (t : List ℕ). g 0 (f 0 x) ∷ t) (mapi-mapi (λ k. f (suc k)) (λ k. g (suc k)) xs)
 
 -- an effect that does not look at the old byte is a table
 pub mapi-tab : (f : ℕ → ℕ) (l : List ℕ) → mapi (λ k x. f k) l ≡ tab (length l) f
@@ -97,23 +100,3 @@ loop-end f l a hi h e =
 -- a loop over a whole list ends
 pub mapi-all : (f : ℕ → ℕ → ℕ) (l : List ℕ) → mapi (upTo (length l) f) l ≡ mapi f l
 mapi-all f l = mapi-cong (upTo (length l) f) f l (λ k b. rw (lt-ltb k (length l) b) refl)
-
--- ---- a loop over a run of places, one store a turn
-
-module _ (lo hi : ℕ) (f : ℕ → ℕ → ℕ) (l : List ℕ) where
-  run-inside : (k x : ℕ) → lo ≤ k → k < hi → f k x ≡ onRun lo hi f k x
-  run-inside k x a b = rw (le-leb lo k a, lt-ltb k hi b) refl
-
-  pub run-start : l ≡ mapi (upTo lo (onRun lo hi f)) l
-  run-start = loop-start (onRun lo hi f) l lo (λ k x a. rw (lt-leb lo k a) refl)
-
-  pub run-turn : (a : List ℕ) (k v : ℕ) → lo ≤ k → k < hi → hi ≤ length l → v ≡ f k (getD a k 0) → a ≡ mapi (upTo k (onRun lo hi f)) l
-      → set a k v ≡ mapi (upTo (k + 1) (onRun lo hi f)) l
-  run-turn a k v p q h e t =
-      rw (e ∙ run-inside k (getD a k 0) p q) (loop-turn (onRun lo hi f) l a k (omega arith) t)
-
-  pub run-end : (a : List ℕ) (k : ℕ) → hi ≤ k → a ≡ mapi (upTo k (onRun lo hi f)) l → a ≡ mapi (onRun lo hi f) l
-  run-end a k b t = loop-end (onRun lo hi f) l a k (λ j x c. above j x (omega arith)) t
-    where
-      above : (j x : ℕ) → hi ≤ j → onRun lo hi f j x ≡ x
-      above j x d = rw (le-ltb j hi d, and-false (leb lo j)) refl

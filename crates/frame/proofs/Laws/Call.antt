@@ -1,79 +1,59 @@
--- What a refused and what an accepted call leaves: the three columns of its command, or nothing changed.
+-- What a refused and what an accepted call leaves: nothing changed, or what the accepted frame does.
 -- Assumes nothing.
 use mathlib.Core.Path.{_≡_, refl, sym, _∙_}
 use mathlib.Core.Bool.{Bool}
 use mathlib.Core.List.{List}
-use Prim.Native.Nat.{ℕ}
+use Prim.Native.Nat.{ℕ, _<_}
+use native.Mathlib.Omega.{arith}
 use lib.Dec.{eqb}
-use lib.ListN.{length}
 use borrow.Author.Tests.{eqb-true, eq-eqb, ne-eqb}
-use Rattle.common.specs.Lists.{mapi}
 use Rattle.common.proofs.Laws.Choice.{cond-elim, yes, no}
-use Rattle.common.proofs.Laws.Lists.{length-tab}
-use Rattle.state.specs.declared.State.{State}
-use Rattle.state.specs.declared.Answer.{Answer}
-use Rattle.state.specs.Answer.{granted, refused}
-use Rattle.state.specs.Power.{poweredUp}
-use Rattle.effect.specs.Effect.{changed}
-use Rattle.effect.specs.Cut.{cut}
-use Rattle.frame.specs.Call.{frameNumber, effectAt, stateAt, shown, frameAnswer, frameArray, frameOutput, FrameRun, cutNumber, cutAnswer, cutArray, cutOutput, CutRun}
+use Rattle.frame.specs.Device.{Device}
+use Rattle.frame.specs.Ran.{ranDevice, FrameDone, tornDevice, CutDone}
+use Rattle.frame.specs.Call.{frameNumber, Accepted, frameDevice, frameOutput, FrameRun, cutNumber, CutAccepted, cutDevice, cutOutput, CutRun}
+use Rattle.frame.proofs.Laws.Accepted.{number-accepted, accepted-number, cut-number-accepted, cut-accepted-number}
 
-module _ (s : State) (wp : Bool) (array f output : List ℕ) where
-  abbrev number : ℕ
-  number = frameNumber s (length array) (length f) (length output)
+module _ (wp : Bool) (f : List ℕ) (d : Device) (output : List ℕ) where
+  pub frame-refused : (frameNumber wp f d output ≡ 0 → ⊥) → FrameRun wp f d output (frameNumber wp f d output) d output
+  unfolding frameDevice frameOutput
+  frame-refused h = let t = ne-eqb (frameNumber wp f d output) 0 h in record { number-is = refl; device-is = no _ t refl; output-is = no _ t refl }
 
-  pub frame-refused : (number ≡ 0 → ⊥) → FrameRun s wp array f output (refused number s) array output
-  unfolding frameAnswer frameArray frameOutput
-  frame-refused h = let t = ne-eqb number 0 h in record { answers = no _ t refl; array-is = no _ t refl; output-is = no _ t refl }
+  pub frame-accepted : {after : Device} {out : List ℕ} → Accepted wp f d output → FrameDone wp f d after out → FrameRun wp f d output 0 after out
+  unfolding frameDevice frameOutput
+  frame-accepted a done =
+      let e = accepted-number wp f d output a in
+      let t = eq-eqb (frameNumber wp f d output) 0 e in
+      record { number-is = sym e; device-is = yes _ t (done .device-is); output-is = yes _ t (done .output-is) }
 
-  pub frame-accepted : number ≡ 0
-      → FrameRun s wp array f output (granted (stateAt s wp f)) (mapi (changed (effectAt s wp f) f) array) (shown s wp array f)
-  unfolding frameAnswer frameArray frameOutput
-  frame-accepted e = let t = eq-eqb number 0 e in record { answers = yes _ t refl; array-is = yes _ t refl; output-is = yes _ t refl }
+  -- "A refusal changes no buffer and returns the given state"
+  pub frame-refusal-keeps : {number : ℕ} {after : Device} {out : List ℕ} → FrameRun wp f d output number after out → 0 < number → (after ≡ d) × (out ≡ output)
+  frame-refusal-keeps p some =
+      let r = frame-refused (λ z. omega (arith, p .number-is, z, some)) in (p .device-is ∙ sym (r .device-is), p .output-is ∙ sym (r .output-is))
 
-  -- a frame's output is as long as the frame, also where the frame is refused
-  pub frame-output-length : length output ≡ length f → length (frameOutput s wp array f output) ≡ length f
-  unfolding frameOutput
-  frame-output-length same = cond-elim (λ (l : List ℕ). length l ≡ length f) (eqb number 0) (λ _. length-tab (length f) _) (λ _. same)
+  -- what holds of the chip as it was, and of what an accepted frame leaves, holds of what the call leaves
+  pub frame-either : (P : Device → Type 0) → P d → (Accepted wp f d output → P (ranDevice wp f d)) → P (frameDevice wp f d output)
+  unfolding frameDevice
+  frame-either P same ran =
+      cond-elim P (eqb (frameNumber wp f d output) 0) (λ t. ran (number-accepted wp f d output (eqb-true (frameNumber wp f d output) 0 t))) (λ _. same)
 
   module _ (mask : List ℕ) where
-    abbrev numberCut : ℕ
-    numberCut = cutNumber s wp (length array) f (length output) (length mask)
+    pub cut-refused : (cutNumber wp f mask d output ≡ 0 → ⊥) → CutRun wp f mask d output (cutNumber wp f mask d output) d output
+    unfolding cutDevice cutOutput
+    cut-refused h = let t = ne-eqb (cutNumber wp f mask d output) 0 h in record { number-is = refl; device-is = no _ t refl; output-is = no _ t refl }
 
-    pub cut-refused : (numberCut ≡ 0 → ⊥) → CutRun s wp array f output mask (refused numberCut s) array output
-    unfolding cutAnswer cutArray cutOutput
-    cut-refused h = let t = ne-eqb numberCut 0 h in record { answers = no _ t refl; array-is = no _ t refl; output-is = no _ t refl }
+    pub cut-accepted : {after : Device} {out : List ℕ} → CutAccepted wp f mask d output → CutDone wp f mask d after out → CutRun wp f mask d output 0 after out
+    unfolding cutDevice cutOutput
+    cut-accepted a done =
+        let e = cut-accepted-number wp f d output mask a in
+        let t = eq-eqb (cutNumber wp f mask d output) 0 e in
+        record { number-is = sym e; device-is = yes _ t (done .device-is); output-is = yes _ t (done .output-is) }
 
-    pub cut-accepted : numberCut ≡ 0
-        → CutRun s wp array f output mask (granted (poweredUp (stateAt s wp f))) (mapi (cut (effectAt s wp f) f mask) array) (shown s wp array f)
-    unfolding cutAnswer cutArray cutOutput
-    cut-accepted e = let t = eq-eqb numberCut 0 e in record { answers = yes _ t refl; array-is = yes _ t refl; output-is = yes _ t refl }
+    pub cut-refusal-keeps : {number : ℕ} {after : Device} {out : List ℕ} → CutRun wp f mask d output number after out → 0 < number → (after ≡ d) × (out ≡ output)
+    cut-refusal-keeps p some =
+        let r = cut-refused (λ z. omega (arith, p .number-is, z, some)) in (p .device-is ∙ sym (r .device-is), p .output-is ∙ sym (r .output-is))
 
-    pub cut-answer-number : cutAnswer s wp array f output mask .number ≡ numberCut
-    unfolding cutAnswer
-    cut-answer-number =
-        cond-elim (λ (a : Answer). a .number ≡ numberCut) (eqb numberCut 0) (λ t. sym (eqb-true numberCut 0 t)) (λ _. refl)
-
--- an accepted call answers and leaves the same, whatever its buffer held
-module _ {s : State} {wp : Bool} {array f output : List ℕ} {answer : Answer} {arrayAfter outputAfter : List ℕ} (same : length output ≡ length f) where
-  pub frame-buffer-free : frameNumber s (length array) (length f) (length f) ≡ 0 → FrameRun s wp array f output answer arrayAfter outputAfter
-      → FrameRun s wp array f f answer arrayAfter outputAfter
-  frame-buffer-free e r =
-      let p = frame-accepted s wp array f output (rw same e) in
-      let q = frame-accepted s wp array f f e in
-      record {
-        answers = r .answers ∙ sym (p .answers) ∙ q .answers;
-        array-is = r .array-is ∙ sym (p .array-is) ∙ q .array-is;
-        output-is = r .output-is ∙ sym (p .output-is) ∙ q .output-is;
-      }
-
-  pub cut-buffer-free : {mask : List ℕ} → cutNumber s wp (length array) f (length f) (length mask) ≡ 0
-      → CutRun s wp array f output mask answer arrayAfter outputAfter → CutRun s wp array f f mask answer arrayAfter outputAfter
-  cut-buffer-free {mask} e r =
-      let p = cut-accepted s wp array f output mask (rw same e) in
-      let q = cut-accepted s wp array f f mask e in
-      record {
-        answers = r .answers ∙ sym (p .answers) ∙ q .answers;
-        array-is = r .array-is ∙ sym (p .array-is) ∙ q .array-is;
-        output-is = r .output-is ∙ sym (p .output-is) ∙ q .output-is;
-      }
+    pub cut-either : (P : Device → Type 0) → P d → (CutAccepted wp f mask d output → P (tornDevice wp f mask d)) → P (cutDevice wp f mask d output)
+    unfolding cutDevice
+    cut-either P same torn =
+        cond-elim P (eqb (cutNumber wp f mask d output) 0) (λ t. torn (cut-number-accepted wp f d output mask (eqb-true (cutNumber wp f mask d output) 0 t)))
+        (λ _. same)

@@ -1,6 +1,6 @@
 -- Each exported call's statement determines what it returns and what it leaves of what it was lent: two results that satisfy it are equal.
 -- Assumes nothing.
-use mathlib.Core.Path.{_≡_, sym, ap, _∙_}
+use mathlib.Core.Path.{_≡_, sym, _∙_}
 use mathlib.Core.Bool.{Bool}
 use mathlib.Core.List.{List}
 use Prim.Native.Nat.{ℕ}
@@ -10,6 +10,7 @@ use Rattle.state.specs.Power.{newChip, powerUp}
 use Rattle.state.specs.Time.{passTime}
 use Rattle.state.proofs.Laws.Determined.{new-chip-determined, power-up-determined, pass-time-determined}
 use Rattle.script.specs.Reader.{recordAt}
+use Rattle.frame.specs.Device.{Device}
 use Rattle.frame.specs.Call.{FrameRun, CutRun}
 use Rattle.frame.proofs.Laws.Determined.{run-frame-determined, run-cut-frame-determined}
 use Rattle.run.specs.declared.Ran.{Ran}
@@ -18,7 +19,6 @@ use Rattle.run.proofs.Laws.Script.{run-script-determined}
 use Rattle.plan.specs.declared.Planned.{Planned}
 use Rattle.plan.specs.Update.{PlanUpdated}
 use Rattle.plan.proofs.Laws.Update.{plan-update-determined}
-use Rattle.host.specs.Lent.{lentAnswer}
 use Rattle.host.specs.Read.{recordOf}
 use Rattle.host.specs.declared.reader.Record.{Record}
 
@@ -37,8 +37,8 @@ pub zeradok-plan-determined : (chip : State) (wp : Bool) (array : List ℕ) (sta
     → (a ≡ b) × (after ≡ after′)
 zeradok-plan-determined = plan-update-determined
 
-pub zeradok-run-determined : (chip : State) (wp : Bool) (array script output : List ℕ) (a b : Ran) (after after′ out out′ : List ℕ)
-    → ScriptRun chip wp array script output a after out → ScriptRun chip wp array script output b after′ out′
+pub zeradok-run-determined : (wp : Bool) (script : List ℕ) (d : Device) (output : List ℕ) (a b : Ran) (after after′ : Device) (out out′ : List ℕ)
+    → ScriptRun wp script d output a after out → ScriptRun wp script d output b after′ out′
     → (a ≡ b) × ((after ≡ after′) × (out ≡ out′))
 zeradok-run-determined = run-script-determined
 
@@ -46,18 +46,13 @@ pub zeradok-read-determined : (script : List ℕ) (offset : ℕ) (a b : Record)
     → a ≡ recordOf (recordAt script offset) → b ≡ recordOf (recordAt script offset) → a ≡ b
 zeradok-read-determined script offset a b p q = p ∙ sym q
 
--- the two calls on a lent state: the number returned, the state left, the array and the output
-module _ (s : State) (wp : Bool) (array f output : List ℕ) (number number′ : ℕ) (left left′ : State) (after after′ out out′ : List ℕ) where
+-- the two calls on a lent state: the number returned, the chip left and the output
+module _ (wp : Bool) (f : List ℕ) (d : Device) (output : List ℕ) (number number′ : ℕ) (after after′ : Device) (out out′ : List ℕ) where
   abbrev Same : Type 0
-  Same = (number ≡ number′) × ((left ≡ left′) × ((after ≡ after′) × (out ≡ out′)))
+  Same = (number ≡ number′) × ((after ≡ after′) × (out ≡ out′))
 
-  same : (lentAnswer number left ≡ lentAnswer number′ left′) × ((after ≡ after′) × (out ≡ out′)) → Same
-  same e = (ap (λ (a : Answer). a .number) (e .0), (ap (λ (a : Answer). a .state) (e .0), e .1))
+  pub zeradok-frame-determined : FrameRun wp f d output number after out → FrameRun wp f d output number′ after′ out′ → Same
+  zeradok-frame-determined = run-frame-determined wp f d output number number′ after after′ out out′
 
-  pub zeradok-frame-determined : FrameRun s wp array f output (lentAnswer number left) after out
-      → FrameRun s wp array f output (lentAnswer number′ left′) after′ out′ → Same
-  zeradok-frame-determined p q = same (run-frame-determined s wp array f output _ _ _ _ _ _ p q)
-
-  pub zeradok-cut-frame-determined : (mask : List ℕ) → CutRun s wp array f output mask (lentAnswer number left) after out
-      → CutRun s wp array f output mask (lentAnswer number′ left′) after′ out′ → Same
-  zeradok-cut-frame-determined mask p q = same (run-cut-frame-determined s wp array f output _ _ _ _ _ _ mask p q)
+  pub zeradok-cut-frame-determined : (mask : List ℕ) → CutRun wp f mask d output number after out → CutRun wp f mask d output number′ after′ out′ → Same
+  zeradok-cut-frame-determined = run-cut-frame-determined wp f d output number number′ after after′ out out′

@@ -45,8 +45,8 @@ use denote.Exit.{yes}
 use denote.Signature.{plain, shrSliceOf}
 use Rattle.state.specs.declared.State.{State}
 use Rattle.state.specs.declared.Answer.{Answer}
+use Rattle.frame.specs.Device.{device}
 use Rattle.frame.specs.Call.{FrameRun}
-use Rattle.host.specs.Lent.{lentAnswer}
 use Rattle.state.proofs.State as T
 use Rattle.state.proofs.State.Laws as T′
 use Rattle.state.proofs.Answer as R
@@ -66,10 +66,10 @@ stayed = (stay-ref (0 ∷ []) tt (plain (λ _. T.the-row)), (stay-dropped (plain
 
 -- the contracts' clauses, over plain values: of a slice, its list at entry, and with ′ its list at exit
 abbrev Said : State → Bool → List ℕ → List ℕ → List ℕ → Answer → List ℕ → List ℕ → Type 0
-Said h wp array input output r array′ output′ = FrameRun h wp array input output r array′ output′
+Said h wp array input output r array′ output′ = FrameRun wp input (device h array) output (r .number) (device (r .state) array′) output′
 
 abbrev Owed : State → Bool → List ℕ → List ℕ → List ℕ → ℕ → State → List ℕ → List ℕ → Type 0
-Owed h wp array input output r h′ array′ output′ = FrameRun h wp array input output (lentAnswer r h′) array′ output′
+Owed h wp array input output r h′ array′ output′ = FrameRun wp input (device h array) output r (device h′ array′) output′
 
 -- the contract that the proof cites
 abbrev G : {M : Type 1} (𝓤 : URA M) (H : Heap 𝓤) (A : Atoms 𝓤) (mem : Memory → SProp 𝓤) (run : Routine → Fun 𝓤) → Contract 𝓤

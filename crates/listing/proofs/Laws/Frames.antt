@@ -15,7 +15,8 @@ use Rattle.script.proofs.Laws.Records.{output-frame, output-wait, script-length
 use Rattle.script.proofs.Laws.Decode.{decoded-length}
 use Rattle.script.proofs.Laws.Answers.{Stands, First, stands-first, FrameTold, EndTold}
 use Rattle.script.proofs.Laws.Survey.{survey-whole}
-use Rattle.run.specs.Run.{Device, step, outputOf, outputs}
+use Rattle.frame.specs.Device.{Device}
+use Rattle.run.specs.Run.{step, outputOf, outputs}
 use Rattle.run.proofs.Laws.Run.{outputs-frame, outputs-wait, output-length}
 use Rattle.common.specs.Buffer.{Put}
 use Rattle.common.proofs.Laws.Buffer.{Left, left-start, left-room, left-turn, left-none}

@@ -23,10 +23,11 @@ use Rattle.script.specs.declared.survey.Survey.{Survey}
 use Rattle.script.proofs.Laws.Decode.{decoded-length, decoded-output}
 use Rattle.script.proofs.Laws.Survey.{fault-numbered, survey-long, survey-short, survey-output}
 use Rattle.run.specs.declared.Ran.{Ran}
-use Rattle.run.specs.Run.{Device, run, outputs}
-use Rattle.run.specs.Script.{scriptNumber, ranRecords, ScriptRun}
-use Rattle.run.proofs.Laws.Accepted.{number-by-survey}
-use Rattle.run.proofs.Laws.Script.{script-ran, script-answer-number}
+use Rattle.frame.specs.Device.{Device}
+use Rattle.run.specs.Run.{run, outputs}
+use Rattle.run.specs.Script.{scriptNumber, ScriptAccepted, ScriptRun}
+use Rattle.run.proofs.Laws.Accepted.{number-accepted, number-by-survey}
+use Rattle.run.proofs.Laws.Script.{script-ran}
 use Rattle.run.proofs.Laws.Run.{outputs-length}
 use Rattle.common.specs.Buffer.{Put}
 use Rattle.text.specs.Text.{digit, hex, decimal, line}
@@ -109,27 +110,23 @@ unfolding erased
 erased-length = rw (new-chip-known 5 known-5, chip-of-5) (length-replicate {A = ℕ} 65536 0xff)
 
 -- with room for the outputs: what the answer and the output tell
-module _ {script room array output : List ℕ} {ran : Ran} (lent : length room ≡ surveyOf script .output)
-    (r : ScriptRun (newChip 5 .state) high erased script room ran array output) where
-  abbrev number : ℕ
-  number = scriptNumber (newChip 5 .state) (length erased) script (length room)
-
-  number-is : number ≡ surveyOf script .number
-  number-is = number-by-survey (newChip 5 .state) (length erased) script (length room) (new-sound 5) erased-length lent
+module _ {script room output : List ℕ} {ran : Ran} {after : Device} (lent : length room ≡ surveyOf script .output)
+    (r : ScriptRun high script new05pa room ran after output) where
+  number-is : scriptNumber high script new05pa room ≡ surveyOf script .number
+  number-is = number-by-survey high script new05pa room (new-sound 5) erased-length lent
 
   pub ran-number : ran .number ≡ surveyOf script .number
-  ran-number = ap (λ (a : Ran). a .number) (r .answers) ∙ script-answer-number (newChip 5 .state) high erased script room ∙ number-is
+  ran-number = r .number-is ∙ number-is
 
   module _ (e : ran .number ≡ 0) where
-    accepted : ScriptRun (newChip 5 .state) high erased script room (ranRecords (run high (recordsOf script) new05pa .state) (recordsOf script))
-        (run high (recordsOf script) new05pa .array) (outputs high (recordsOf script) new05pa)
-    accepted = script-ran (newChip 5 .state) high erased script room (number-is ∙ sym ran-number ∙ e)
+    accepted : ScriptAccepted high script new05pa room
+    accepted = number-accepted high script new05pa room (sym (r .number-is) ∙ e)
 
     ran-state : ran .state ≡ run high (recordsOf script) new05pa .state
-    ran-state = ap (λ (a : Ran). a .state) (r .answers ∙ sym (accepted .answers))
+    ran-state = r .state-is ∙ sym (script-ran high script new05pa room accepted .state-is)
 
     ran-output : output ≡ outputs high (recordsOf script) new05pa
-    ran-output = r .output-is ∙ sym (accepted .output-is)
+    ran-output = r .output-is ∙ sym (script-ran high script new05pa room accepted .output-is)
 
     pub ran-length : length output ≡ surveyOf script .output
     ran-length = ap length ran-output ∙ outputs-length high (recordsOf script) new05pa ∙ survey-output script (sym ran-number ∙ e)

@@ -6,16 +6,16 @@ use Prim.Native.Nat.{ℕ, _≤_}
 use native.Mathlib.Omega.{arith}
 use lib.ListN.{length, take, drop, length-append}
 use lib.Seq.{take-at, length-take-le}
-use Rattle.state.specs.Power.{newChip}
 use Rattle.state.specs.Status.{statusOf}
 use Rattle.common.specs.Limits.{longestScript}
 use Rattle.script.specs.Survey.{surveyOf}
 use Rattle.script.specs.declared.survey.Survey.{Survey}
+use Rattle.frame.specs.Device.{device}
 use Rattle.run.specs.Script.{ScriptRun}
 use Rattle.script.specs.Decode.{recordsOf}
 use Rattle.common.proofs.Laws.Buffer.{Left, left-start, left-fits, left-turn, left-last}
 use Rattle.text.specs.Text.{hex, line}
-use Rattle.listing.specs.Listing.{longestListing, high, erased, listing, cutLines}
+use Rattle.listing.specs.Listing.{longestListing, high, new05pa, listing, cutLines}
 use Rattle.listing.proofs.Laws.Listing.{refusal-length, number-small, output-small, listing-fits, listing-refused, ran-number, ran-length, ran-listing}
 use borrow.Author.Needs.{needs}
 use Rattle.listing.proofs.listing.Statement.{statement}
@@ -39,7 +39,7 @@ abbrev Output : tie.After-run-script → List ℕ
 Output c = c .run-script .last .1 .1 .1 .1 .0
 
 ran : (c : tie.After-run-script)
-    → ScriptRun (newChip 5 .state) high erased (c .before .before .before .before .before .before .before .before .args .script .now) (Room (c .before)) (c .run-script .result) (c .run-script .last .1 .1 .0) (Output c)
+    → ScriptRun high (c .before .before .before .before .before .before .before .before .args .script .now) new05pa (Room (c .before)) (c .run-script .result) (device (c .run-script .result .state) (c .run-script .last .1 .1 .0)) (Output c)
 ran c = rw (c .before .before .before .before .before .erased-array .ensures, c .before .before .before .new-chip .ensures) at (c .run-script .ensures)
 
 long : (c : tie.Else1) → length (Output (c .before .before .before .before)) ≡ c .before .before .before .before .before .before .before .before .before .before .survey-of .result .output

@@ -1,11 +1,8 @@
 -- `output::array_byte` meets its contract: before the data FF, then the array modulo its size.
 -- Assumes nothing.
 use mathlib.Core.Path.{refl}
-use Prim.Native.Nat.{_<_}
-use native.Mathlib.Omega.{arith}
 use borrow.Author.Tests.{lt-ltb, le-ltb}
 use Rattle.common.proofs.Laws.Choice.{yes, no}
-use Rattle.chip.proofs.Laws.Chip.{regular}
 use borrow.Author.Needs.{needs}
 use Rattle.output.proofs.array_byte.Statement.{statement}
 use Rattle.output.proofs.array_byte.Tie as tie
@@ -13,34 +10,17 @@ use Rattle.output.proofs.array_byte.Tie as tie
 returns : tie.Need-returns
 returns c = yes _ (lt-ltb _ _ (c .if1 .taken)) refl
 
-chip-of-requires : tie.Need-chip-of-requires
-chip-of-requires c κs = search needs
-
-cast-size : tie.Need-cast-size
-cast-size c = search needs
-
 add-byte-at : tie.Need-add-byte-at
 add-byte-at c = search needs
 
 rem-byte-at : tie.Need-rem-byte-at
-rem-byte-at c =
-    let r : 0 < c .before .chip-of .result .size = rw (c .before .chip-of .ensures) (regular (c .before .before .before .before .args .s .chip) .size-positive) in
-    omega arith
+rem-byte-at c = search needs
 
 byte-at-requires : tie.Need-byte-at-requires
 byte-at-requires c κs = search needs
 
 returns-2 : tie.Need-returns-2
-returns-2 c = no _ (le-ltb _ _ (c .before .before .before .if1 .left)) (rw (c .before .before .chip-of .ensures) at (c .byte-at .ensures))
+returns-2 c = no _ (le-ltb _ _ (c .before .if1 .left)) (c .byte-at .ensures)
 
 pub array-byte-spec : {M : Type 1} → statement M
-array-byte-spec =
-    tie.close
-    (tie.spec
-    returns
-    chip-of-requires
-    cast-size
-    add-byte-at
-    rem-byte-at
-    byte-at-requires
-    returns-2)
+array-byte-spec = tie.close (tie.spec returns add-byte-at rem-byte-at byte-at-requires returns-2)

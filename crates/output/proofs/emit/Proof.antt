@@ -1,5 +1,7 @@
 -- `output::emit` meets its contract: a read is shown in runs, every other command byte by byte.
 -- Assumes nothing.
+use native.Mathlib.Omega.{arith}
+use Rattle.chip.proofs.Laws.Chip.{regular}
 use Rattle.output.specs.Output.{shownAt}
 use borrow.Author.Needs.{needs}
 use Rattle.output.proofs.emit.Statement.{statement}
@@ -9,7 +11,11 @@ enum-known-c : tie.Need-enum-known-c
 enum-known-c c = search needs
 
 show-array-requires : tie.Need-show-array-requires
-show-array-requires c κs = let h = rw (c .before .before .c .given .1) at (c .before .before .before .before .before .before .pre .0) in (h, c .before .before .before .before .before .before .pre .1, c .before .before .before .before .before .before .pre .2)
+show-array-requires c κs =
+    let start = c .before .before .before .before .before .before in
+    let below = rw (c .before .before .c .given .1) at (start .pre .0) in
+    let k = regular (start .args .s .chip) in
+    (omega (arith, below, start .pre .1), omega (arith, k .size-positive, k .whole-blocks, start .pre .1, start .pre .2))
 
 show-each-requires : tie.Need-show-each-requires
 show-each-requires c κs = search needs
@@ -19,7 +25,9 @@ same-length c = search needs
 
 returns : tie.Need-returns
 unfolding shownAt
-returns c = rw (c .before .before .before .before .before .c .given .1) (c .before .before .show-array .ensures)
+returns c =
+    let sized = c .before .before .before .before .before .before .before .before .before .pre .1 in
+    rw (c .before .before .before .before .before .c .given .1) (rw sized at (c .before .before .show-array .ensures))
 
 same-length-2 : tie.Need-same-length-2
 same-length-2 c = search needs

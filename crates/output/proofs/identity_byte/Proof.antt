@@ -3,15 +3,11 @@
 use mathlib.Core.Path.{refl}
 use borrow.Author.Tests.{eq-eqb, ne-eqb}
 use Rattle.common.proofs.Laws.Choice.{yes, no}
-use borrow.Author.Needs.{needs}
 use Rattle.output.proofs.identity_byte.Statement.{statement}
 use Rattle.output.proofs.identity_byte.Tie as tie
 
-chip-of-requires : tie.Need-chip-of-requires
-chip-of-requires c κs = search needs
-
 returns : tie.Need-returns
-returns c = yes _ (eq-eqb _ 0 (c .before .if1 .taken)) (yes _ (c .if2 .taken) (rw (c .before .before .chip-of .ensures) refl))
+returns c = yes _ (eq-eqb _ 0 (c .before .if1 .taken)) (yes _ (c .if2 .taken) refl)
 
 returns-2 : tie.Need-returns-2
 returns-2 c = yes _ (eq-eqb _ 0 (c .before .if1 .taken)) (no _ (c .if2 .left) refl)
@@ -20,7 +16,7 @@ returns-3 : tie.Need-returns-3
 returns-3 c = no _ (ne-eqb _ 0 (c .before .if1 .left)) (yes _ (c .if3 .taken) refl)
 
 returns-4 : tie.Need-returns-4
-returns-4 c = no _ (ne-eqb _ 0 (c .before .if1 .left)) (no _ (c .if3 .left) (rw (c .before .before .chip-of .ensures) refl))
+returns-4 c = no _ (ne-eqb _ 0 (c .before .if1 .left)) (no _ (c .if3 .left) refl)
 
 pub identity-byte-spec : {M : Type 1} → statement M
-identity-byte-spec = tie.close (tie.spec chip-of-requires returns returns-2 returns-3 returns-4)
+identity-byte-spec = tie.close (tie.spec returns returns-2 returns-3 returns-4)

@@ -3,24 +3,20 @@
 use mathlib.Core.Path.{refl}
 use borrow.Author.Tests.{ne-eqb}
 use Rattle.common.proofs.Laws.Choice.{no}
-use borrow.Author.Needs.{needs}
 use Rattle.output.proofs.jedec_byte.Statement.{statement}
 use Rattle.output.proofs.jedec_byte.Tie as tie
-
-chip-of-requires : tie.Need-chip-of-requires
-chip-of-requires c κs = search needs
 
 returns : tie.Need-returns
 returns c = rw (c .match .keys1) refl
 
 returns-2 : tie.Need-returns-2
-returns-2 c = rw (c .match .keys2, c .before .chip-of .ensures) refl
+returns-2 c = rw (c .match .keys2) refl
 
 returns-3 : tie.Need-returns-3
-returns-3 c = rw (c .match .keys3, c .before .chip-of .ensures) refl
+returns-3 c = rw (c .match .keys3) refl
 
 returns-4 : tie.Need-returns-4
 returns-4 c = let r = c .match .rest in no _ (ne-eqb _ 1 (r .0 .0 .1)) (no _ (ne-eqb _ 2 (r .0 .1)) (no _ (ne-eqb _ 3 (r .1)) refl))
 
 pub jedec-byte-spec : {M : Type 1} → statement M
-jedec-byte-spec = tie.close (tie.spec chip-of-requires returns returns-2 returns-3 returns-4)
+jedec-byte-spec = tie.close (tie.spec returns returns-2 returns-3 returns-4)

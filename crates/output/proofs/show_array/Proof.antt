@@ -1,8 +1,6 @@
 -- `output::show_array` meets its contract: three runs are the read byte by byte.
 -- Assumes nothing.
-use native.Mathlib.Omega.{arith}
-use Rattle.state.specs.State.{dataOf}
-use Rattle.chip.proofs.Laws.Chip.{regular}
+use lib.ListN.{length}
 use Rattle.output.proofs.Laws.Output.{read-in-runs}
 use borrow.Author.Needs.{needs}
 use Rattle.output.proofs.show_array.Statement.{statement}
@@ -30,10 +28,7 @@ copy-run-requires : tie.Need-copy-run-requires
 copy-run-requires c κs = search needs
 
 copy-run-requires-2 : tie.Need-copy-run-requires-2
-copy-run-requires-2 c κs =
-    let a = c .before .before .before .before .before .before .before .before .before .before .before .before .before in
-    let k = regular (a .args .s .chip) in
-    (omega arith, search needs, omega (arith, k .size-positive, k .whole-blocks, a .pre .1, a .pre .2))
+copy-run-requires-2 c κs = search needs
 
 same-length : tie.Need-same-length
 same-length c = search needs
@@ -42,9 +37,8 @@ returns : tie.Need-returns
 returns c =
     let p = c .before .before .before .before .before .before .before .before .before .before .before .before .before .before .before .before in
     let a = p .args in
-    let k = regular (a .s .chip) in
-    rw (c .before .before .copy-run2 .ensures, c .before .before .before .before .before .before .copy-run .ensures, c .before .before .before .before .before .before .before .before .before .before .before .fill-run .ensures, c .before .before .before .before .before .before .before .before .smaller2 .ensures, c .before .before .before .before .before .before .before .before .before .before .before .before .before .smaller .ensures, p .pre .1)
-    (read-in-runs (dataOf (a .s) .size) (a .from) (a .at) (a .array .now) (a .output .now) (p .pre .0) (omega (arith, k .size-positive, k .whole-blocks, p .pre .2)))
+    rw (c .before .before .copy-run2 .ensures, c .before .before .before .before .before .before .copy-run .ensures, c .before .before .before .before .before .before .before .before .before .before .before .fill-run .ensures, c .before .before .before .before .before .before .before .before .smaller2 .ensures, c .before .before .before .before .before .before .before .before .before .before .before .before .before .smaller .ensures)
+    (read-in-runs (length (a .array .now)) (a .from) (a .at) (a .array .now) (a .output .now) (p .pre .0) (p .pre .1))
 
 pub show-array-spec : {M : Type 1} → statement M
 show-array-spec =

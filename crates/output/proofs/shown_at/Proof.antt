@@ -2,11 +2,12 @@
 -- Assumes nothing.
 use mathlib.Core.Path.{_≡_, refl, sym}
 use mathlib.Core.List.{List, [], _∷_}
-use Prim.Native.Nat.{ℕ}
+use Prim.Native.Nat.{ℕ, _<_}
 use borrow.Author.Tests.{lt-ltb, le-ltb}
 use denote.Enum.Declared.{tagOf}
 use types.Run.{OneOf, miss}
 use Rattle.common.proofs.Laws.Choice.{yes, no}
+use Rattle.chip.proofs.Laws.Chip.{regular}
 use Rattle.state.specs.declared.State.{State}
 use Rattle.command.specs.declared.Command.{Command}
 use Rattle.command.proofs.Command.{the-type}
@@ -51,11 +52,19 @@ status-of-requires c κs = search needs
 enum-known-c : tie.Need-enum-known-c
 enum-known-c c = search needs
 
+chip-of-requires : tie.Need-chip-of-requires
+chip-of-requires c κs = search needs
+
 array-byte-requires : tie.Need-array-byte-requires
-array-byte-requires c κs = search needs
+array-byte-requires c κs =
+    let sized : 0 < c .chip-of .result .size = rw (c .chip-of .ensures) (regular (c .before .before .before .before .before .args .s .chip) .size-positive) in
+    (sized, search needs)
 
 enum-told-2 : tie.Need-enum-told-2
 enum-told-2 c = search needs
+
+chip-of-requires-2 : tie.Need-chip-of-requires-2
+chip-of-requires-2 c κs = search needs
 
 jedec-byte-requires : tie.Need-jedec-byte-requires
 jedec-byte-requires c κs = search needs
@@ -63,15 +72,15 @@ jedec-byte-requires c κs = search needs
 enum-told-3 : tie.Need-enum-told-3
 enum-told-3 c = search needs
 
-chip-of-requires : tie.Need-chip-of-requires
-chip-of-requires c κs = search needs
+chip-of-requires-3 : tie.Need-chip-of-requires-3
+chip-of-requires-3 c κs = search needs
 
 cast-if2 : tie.Need-cast-if2
 cast-if2 c = search needs
 
 returns-2 : tie.Need-returns-2
 unfolding shownAt
-returns-2 c = rw (c .before .before .before .enum-told3 .given .1) (yes _ (lt-ltb _ _ (rw (c .before .before .chip-of .ensures) at (c .if2 .taken))) refl)
+returns-2 c = rw (c .before .before .before .enum-told3 .given .1) (yes _ (lt-ltb _ _ (rw (c .before .before .chip-of3 .ensures) at (c .if2 .taken))) refl)
 
 enum-known-c-2 : tie.Need-enum-known-c-2
 enum-known-c-2 c = search needs
@@ -79,6 +88,9 @@ enum-known-c-2 c = search needs
 returns-3 : tie.Need-returns-3
 unfolding shownAt
 returns-3 c = rw (c .before .before .c2 .given .1) (yes _ (lt-ltb _ 4 (c .if3 .taken)) refl)
+
+chip-of-requires-4 : tie.Need-chip-of-requires-4
+chip-of-requires-4 c κs = search needs
 
 identity-byte-requires : tie.Need-identity-byte-requires
 identity-byte-requires c κs = search needs
@@ -89,21 +101,23 @@ returns-4 c = rw (c .before .before .enum-told .given .1) (no _ (le-ltb _ 1 (c .
 
 returns-5 : tie.Need-returns-5
 unfolding shownAt
-returns-5 c = rw (c .before .before .c .given .1) (c .array-byte .ensures)
+returns-5 c = rw (c .before .before .before .c .given .1) (rw (c .before .chip-of .ensures) at (c .array-byte .ensures))
 
 returns-6 : tie.Need-returns-6
 unfolding shownAt
-returns-6 c = rw (c .before .enum-told2 .given .1) (c .jedec-byte .ensures)
+returns-6 c = rw (c .before .before .enum-told2 .given .1) (rw (c .before .chip-of2 .ensures) at (c .jedec-byte .ensures))
 
 returns-7 : tie.Need-returns-7
 unfolding shownAt
 returns-7 c =
     rw (c .before .before .before .enum-told3 .given .1)
-    (no _ (le-ltb _ _ (rw (c .before .before .chip-of .ensures) at (c .if2 .left))) (rw (c .before .before .chip-of .ensures) refl))
+    (no _ (le-ltb _ _ (rw (c .before .before .chip-of3 .ensures) at (c .if2 .left))) (rw (c .before .before .chip-of3 .ensures) refl))
 
 returns-8 : tie.Need-returns-8
 unfolding shownAt
-returns-8 c = rw (c .before .before .before .c2 .given .1) (no _ (le-ltb _ 4 (c .before .if3 .left)) (c .identity-byte .ensures))
+returns-8 c =
+    rw (c .before .before .before .before .c2 .given .1)
+    (no _ (le-ltb _ 4 (c .before .before .if3 .left)) (rw (c .before .chip-of4 .ensures) at (c .identity-byte .ensures)))
 
 returns-9 : tie.Need-returns-9
 returns-9 c = sym (others (c .before .before .args .s) (c .before .before .args .c) _ (c .before .before .args .i) (c .match .keys6))
@@ -116,15 +130,18 @@ shown-at-spec =
     returns
     status-of-requires
     enum-known-c
+    chip-of-requires
     array-byte-requires
     enum-told-2
+    chip-of-requires-2
     jedec-byte-requires
     enum-told-3
-    chip-of-requires
+    chip-of-requires-3
     cast-if2
     returns-2
     enum-known-c-2
     returns-3
+    chip-of-requires-4
     identity-byte-requires
     returns-4
     returns-5

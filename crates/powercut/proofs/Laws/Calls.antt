@@ -1,6 +1,6 @@
 -- The calls together: what planning writes at the front of the buffer is a script, and running it on the same chip completes the update, with the counts as planned.
 -- Assumes nothing.
-use mathlib.Core.Path.{_≡_, sym, ap, ap₂, _∙_}
+use mathlib.Core.Path.{_≡_, sym, ap, _∙_}
 use mathlib.Core.Bool.{Bool}
 use mathlib.Core.List.{List, _∷_, _++_}
 use Prim.Native.Nat.{ℕ}
@@ -8,22 +8,19 @@ use native.Mathlib.Omega.{arith}
 use lib.ListN.{length, take, drop}
 use lib.Seq.{take-at}
 use Rattle.common.specs.Bits.{Bytes}
-use Rattle.state.specs.declared.State.{State}
 use Rattle.state.specs.declared.Answer.{Answer}
-use Rattle.state.specs.State.{dataOf}
 use Rattle.state.specs.Power.{powerUp}
 use Rattle.script.specs.Record.{Record, frame, encode, framesIn, microsecondsIn, outputLength}
 use Rattle.script.proofs.Laws.Records.{encoded-length}
 use Rattle.state.proofs.Laws.Soundness.{sound-of}
+use Rattle.frame.specs.Device.{Device, withState}
 use Rattle.frame.specs.Call.{CutRun}
-use Rattle.frame.proofs.Laws.Accepted.{cut-number-accepted}
-use Rattle.frame.proofs.Laws.Call.{cut-answer-number, cut-buffer-free}
 use Rattle.run.specs.declared.Ran.{Ran}
-use Rattle.run.specs.Run.{Device, device, run}
-use Rattle.run.specs.Script.{scriptNumber, ranRecords, scriptAnswer, scriptArray, ScriptRun}
+use Rattle.run.specs.Run.{run, outputs}
+use Rattle.run.specs.Script.{scriptNumber, ScriptAccepted, ScriptRun}
 use Rattle.script.specs.Decode.{recordsOf}
 use Rattle.run.proofs.Laws.Accepted.{accepted-number, encoded-accepted}
-use Rattle.run.proofs.Laws.Script.{script-ran}
+use Rattle.run.proofs.Laws.Script.{ranBy, script-ran, run-script-determined}
 use Rattle.plan.proofs.Laws.Update.{plan-given}
 use Rattle.plan.specs.declared.Planned.{Planned}
 use Rattle.plan.specs.Plan.{planRecords}
@@ -34,20 +31,20 @@ use Rattle.plan.proofs.Laws.Refusals.{accepted-of}
 use Rattle.powercut.specs.PowerCut.{between, inside, Finished, PowerLost, RunAsPlanned}
 use Rattle.powercut.proofs.Laws.PowerCut.{power-cut-safe, script-read-back}
 
-module _ (s : State) (wp : Bool) (array : List ℕ) (start : ℕ) (wanted buffer after : List ℕ) (planned : Planned)
-    (plans : PlanUpdated s wp array start wanted buffer after planned) (good : planned .number ≡ 0) where
+module _ (wp : Bool) (chip : Device) (start : ℕ) (wanted buffer after : List ℕ) (planned : Planned)
+    (plans : PlanUpdated (chip .state) wp (chip .array) start wanted buffer after planned) (good : planned .number ≡ 0) where
   abbrev records : List Record
-  records = planRecords s array start wanted
+  records = planRecords (chip .state) (chip .array) start wanted
 
   -- the script: as many bytes at the front of the buffer as the answer says
   abbrev pub script : List ℕ
   script = take (planned .length) after
 
-  accepted : planRefusal s wp array start wanted (length buffer) ≡ 0
+  accepted : planRefusal (chip .state) wp (chip .array) start wanted (length buffer) ≡ 0
   accepted = sym (plans .number) ∙ good
 
-  given : givenRecords s wp array start wanted (length buffer) ≡ records
-  given = plan-given s wp array start wanted buffer accepted
+  given : givenRecords (chip .state) wp (chip .array) start wanted (length buffer) ≡ records
+  given = plan-given (chip .state) wp (chip .array) start wanted buffer accepted
 
   pub script-is : script ≡ encode records
   script-is =
@@ -56,60 +53,58 @@ module _ (s : State) (wp : Bool) (array : List ℕ) (start : ℕ) (wanted buffer
       ap (take (planned .length)) front ∙ take-at (encode records) (drop (length (encode records)) buffer) (planned .length) (sym long)
 
   reads-back : recordsOf script ≡ records
-  reads-back = rw script-is (script-read-back s array start wanted)
+  reads-back = rw script-is (script-read-back (chip .state) (chip .array) start wanted)
 
   module _ (output : List ℕ) (long : length output ≡ outputLength records) where
     -- the runner accepts it, with room for its outputs
-    pub plan-script-accepted : scriptNumber s (length array) script (length output) ≡ 0
+    plan-script-accepted : ScriptAccepted wp script chip output
     plan-script-accepted =
-        let a = accepted-of s array start wanted wp (length buffer) accepted .region in
-        rw (a .sized, script-is, long)
-        (accepted-number s (dataOf s .size) (encode records) (outputLength records)
-        (encoded-accepted s records (sound-of s (a .sound)) (plan-fits s array start wanted) (omega (arith, encoded-length records, plan-le s array start wanted (a .short)))))
+        let a = accepted-of (chip .state) (chip .array) start wanted wp (length buffer) accepted .region in
+        rw script-is
+        (encoded-accepted wp records chip output (sound-of (chip .state) (a .sound)) (a .sized) (plan-fits (chip .state) (chip .array) start wanted)
+        (omega (arith, encoded-length records, plan-le (chip .state) (chip .array) start wanted (a .short))) long)
 
-    answer-is : scriptAnswer s wp array script output ≡ ranRecords (run wp records (device s array) .state) records
-    answer-is = rw reads-back at (sym (script-ran s wp array script output plan-script-accepted .answers))
+    pub plan-script-number : scriptNumber wp script chip output ≡ 0
+    plan-script-number = accepted-number wp script chip output plan-script-accepted
 
-    leaves : scriptArray s wp array script output ≡ run wp records (device s array) .array
-    leaves = rw reads-back at (sym (script-ran s wp array script output plan-script-accepted .array-is))
+    module _ (ran : Ran) (chipAfter : Device) (outputAfter : List ℕ) (runs : ScriptRun wp script chip output ran chipAfter outputAfter) where
+      -- it answers and leaves what the records do
+      ran-is : (ran ≡ ranBy 0 (run wp records chip .state) (framesIn records) (microsecondsIn records)) × ((chipAfter ≡ run wp records chip) × (outputAfter ≡ outputs wp records chip))
+      ran-is =
+          rw reads-back at
+          (run-script-determined wp script chip output ran _ chipAfter _ outputAfter _ runs (script-ran wp script chip output plan-script-accepted))
 
-    -- the chip is then the one behind the plan
-    pub run-finished : (ran : Ran) (arrayAfter outputAfter : List ℕ) → ScriptRun s wp array script output ran arrayAfter outputAfter
-        → Finished s wp array start wanted (device (ran .state) arrayAfter)
-    unfolding Finished
-    run-finished ran arrayAfter outputAfter runs = ap₂ device (ap (λ (r : Ran). r .state) (runs .answers ∙ answer-is)) (runs .array-is ∙ leaves)
+      -- the chip is then the one behind the plan
+      pub run-finished : Finished wp chip start wanted chipAfter
+      unfolding Finished
+      run-finished = ran-is .1 .0
 
-    pub run-as-planned : Bytes array → (ran : Ran) (arrayAfter outputAfter : List ℕ) → ScriptRun s wp array script output ran arrayAfter outputAfter
-        → RunAsPlanned s array start wanted planned ran arrayAfter
-    run-as-planned bytes ran arrayAfter outputAfter runs =
-        let answers = runs .answers ∙ answer-is in
-        let uncut = power-cut-safe s wp array start wanted (length buffer) bytes accepted .uncut in
-        record {
-          number = ap (λ (r : Ran). r .number) answers;
-          state-is = ap (λ (r : Ran). r .state) answers ∙ uncut .state-is;
-          array-is = runs .array-is ∙ leaves ∙ uncut .array-is;
-          frames-are = ap (λ (r : Ran). r .frames) answers ∙ ap framesIn (sym given) ∙ sym (plans .frames);
-          microseconds-are = ap (λ (r : Ran). r .microseconds) answers ∙ ap microsecondsIn (sym given) ∙ sym (plans .microseconds);
-        }
+      pub run-as-planned : Bytes (chip .array) → RunAsPlanned chip start wanted planned ran chipAfter
+      run-as-planned bytes =
+          let answers = ran-is .0 in
+          let uncut = power-cut-safe wp chip start wanted (length buffer) bytes accepted .uncut in
+          record {
+            number = ap (λ (r : Ran). r .number) answers;
+            state-is = ap (λ (r : Ran). r .state) answers ∙ uncut .state-is;
+            array-is = ap (λ (d : Device). d .array) (ran-is .1 .0) ∙ uncut .array-is;
+            frames-are = ap (λ (r : Ran). r .frames) answers ∙ ap framesIn (sym given) ∙ sym (plans .frames);
+            microseconds-are = ap (λ (r : Ran). r .microseconds) answers ∙ ap microsecondsIn (sym given) ∙ sym (plans .microseconds);
+          }
 
 -- ---- the power is cut: power-up behind some records, or an interrupted frame, as its call is accepted
 
-module _ (s : State) (wp : Bool) (array : List ℕ) (start : ℕ) (wanted : List ℕ) (before : List Record) where
+module _ (wp : Bool) (chip : Device) (start : ℕ) (wanted : List ℕ) (before : List Record) where
   abbrev met : Device
-  met = run wp before (device s array)
+  met = run wp before chip
 
-  pub power-up-lost : (after : List Record) → planRecords s array start wanted ≡ before ++ after → (answer : Answer) → answer ≡ powerUp (met .state)
-      → PowerLost s wp array start wanted (device (answer .state) (met .array))
+  pub power-up-lost : (after : List Record) → planRecords (chip .state) (chip .array) start wanted ≡ before ++ after → (answer : Answer)
+      → answer ≡ powerUp (met .state) → PowerLost wp chip start wanted (withState met (answer .state))
   unfolding PowerLost
   power-up-lost after e answer is = rw is (between before after e)
 
-  -- whatever the output's buffer held
-  pub cut-frame-lost : (after : List Record) (f output mask : List ℕ) → planRecords s array start wanted ≡ before ++ (frame f ∷ after) → Bytes mask
-      → (answer : Answer) (arrayAfter outputAfter : List ℕ) → CutRun (met .state) wp (met .array) f output mask answer arrayAfter outputAfter → answer .number ≡ 0
-      → PowerLost s wp array start wanted (device (answer .state) arrayAfter)
+  pub cut-frame-lost : (after : List Record) (f mask output : List ℕ) → planRecords (chip .state) (chip .array) start wanted ≡ before ++ (frame f ∷ after)
+      → Bytes mask → (number : ℕ) (chipAfter : Device) (outputAfter : List ℕ) → CutRun wp f mask met output number chipAfter outputAfter → number ≡ 0
+      → PowerLost wp chip start wanted chipAfter
   unfolding PowerLost
-  cut-frame-lost after f output mask e bytes answer arrayAfter outputAfter r good =
-      let number = sym (cut-answer-number (met .state) wp (met .array) f output mask) ∙ sym (ap (λ (a : Answer). a .number) (r .answers)) ∙ good in
-      let a = cut-number-accepted (met .state) wp (length (met .array)) f (length output) (length mask) number in
-      let free = cut-buffer-free (a .whole .same) (rw (a .whole .same) at number) r in
-      rw (ap (λ (a : Answer). a .state) (free .answers), free .array-is) (inside before after f mask e bytes (a .masked))
+  cut-frame-lost after f mask output e bytes number chipAfter outputAfter r good =
+      rw (r .device-is) (inside before after f mask output e bytes (sym (r .number-is) ∙ good))

@@ -12,31 +12,40 @@ use Rattle.state.specs.declared.State.{State}
 use Rattle.state.proofs.Laws.Power.{power-up-granted}
 use Rattle.state.proofs.Laws.Soundness.{sound-of}
 use Rattle.common.specs.Bits.{Bytes}
-use Rattle.run.specs.Run.{device, run}
+use Rattle.frame.specs.Device.{Device}
+use Rattle.frame.proofs.Laws.Accepted.{accepted-number}
+use Rattle.run.specs.Run.{run}
 use Rattle.run.proofs.Laws.Run.{Ready, run-ready, frame-accepted-among}
 use Rattle.plan.specs.Plan.{planRecords}
 use Rattle.plan.specs.Refusals.{Accepted}
 use Rattle.plan.proofs.Laws.Plan.{plan-fits}
 use Rattle.powercut.specs.PowerCut.{updated, Completes}
-use Rattle.powercut.proofs.Laws.States.{rest}
+use Rattle.powercut.proofs.Laws.States.{standing, rest}
 use Rattle.powercut.proofs.Laws.Region.{settled-outside, complete}
 use Rattle.powercut.proofs.Laws.PlanRun.{plan-ran}
 
-module _ (given : State) (bp : ℕ) (wel armed : Bool) (wp : Bool) (array : List ℕ) (start : ℕ) (wanted : List ℕ) (room : ℕ) (bytes : Bytes array)
-    (accepted : Accepted (rest given bp wel armed) wp array start wanted room) where
+module _ (given : Device) (bp : ℕ) (wel armed : Bool) (wp : Bool) (start : ℕ) (wanted : List ℕ) (room : ℕ) (bytes : Bytes (given .array))
+    (accepted : Accepted (rest (given .state) bp wel armed) wp (given .array) start wanted room) where
   abbrev s : State
-  s = rest given bp wel armed
+  s = rest (given .state) bp wel armed
 
-  pub completes : Completes (planRecords s array start wanted) wp (device s array) (updated array start wanted)
+  abbrev array : List ℕ
+  array = given .array
+
+  abbrev chip : Device
+  chip = standing given s array
+
+  pub completes : Completes (planRecords s array start wanted) wp chip (updated array start wanted)
   completes =
-      let ready : Ready (device s array) = record { sound = sound-of s (accepted .region .sound); sized = accepted .region .sized } in
-      let ran = plan-ran given bp wel armed wp array start wanted room bytes accepted in
-      let now : List ℕ = run wp (planRecords s array start wanted) (device s array) .array in
+      let ready : Ready chip = record { sound = sound-of s (accepted .region .sound); sized = accepted .region .sized } in
+      let ran = plan-ran given bp wel armed wp start wanted room bytes accepted in
+      let now : List ℕ = run wp (planRecords s array start wanted) chip .array in
       record {
         array-is = complete array start wanted bytes now (ran .safe .near) (rw (accepted .region .sized) (accepted .region .fits)) (accepted .region .falls)
             (λ k l. ⊎-elim (λ i. ran .done k i l)
             (λ i. settled-outside array start wanted bytes now (ran .safe .near) k l (within-above start (length wanted) k i)) (split k (start + length wanted)));
         state-is = ran .ends;
-        frames-accepted = λ before after f e. frame-accepted-among wp before after f (device s array) (rw e at (plan-fits s array start wanted)) ready;
-        powers-up = λ before after e. rw (power-up-granted _ (run-ready wp before (device s array) ready .sound)) refl;
+        frames-accepted = λ before after f e output same.
+            accepted-number wp f (run wp before chip) output (frame-accepted-among wp before after f chip (rw e at (plan-fits s array start wanted)) ready output same);
+        powers-up = λ before after e. rw (power-up-granted _ (run-ready wp before chip ready .sound)) refl;
       }

@@ -17,7 +17,6 @@ use Rattle.state.specs.Protection.{firstProtected}
 use Rattle.state.specs.Power.{atRest, newState, poweredUp}
 use Rattle.state.specs.Soundness.{isSound}
 use Rattle.state.specs.Time.{cycleEnded, timePassed}
-use Rattle.state.proofs.Laws.Soundness.{sound-of}
 use Rattle.command.specs.Command.{address, writable, byKind, inAai, commandOf}
 use Rattle.registers.specs.Registers.{stateAfter}
 use Rattle.script.specs.Record.{Record, frame, wait}
@@ -25,15 +24,16 @@ use Rattle.effect.specs.declared.Effect.{Effect}
 use Rattle.effect.specs.declared.Effect.the-variants.{Program}
 use Rattle.effect.specs.Effect.{touches, struck, changed}
 use Rattle.effect.specs.Cut.{mixed, maskPlace}
-use Rattle.frame.specs.Call.{effectAt}
+use Rattle.frame.specs.Device.{Device}
+use Rattle.frame.specs.Ran.{effectAt}
 use Rattle.effect.proofs.Laws.Effect.{mask-place-start}
-use Rattle.run.specs.Run.{Device, device, run}
-use Rattle.run.proofs.Laws.Run.{Ready}
+use Rattle.run.specs.Run.{run}
 use Rattle.region.specs.Region.{wantedAt, changes}
 use Rattle.words.specs.Words.{changingWords, joined, runsOf, furtherRecords, runRecords, runsRecords, wordsStep, wordsIn}
 use Rattle.plan.specs.Plan.{programStep}
 use Rattle.plan.specs.Refusals.{planRefusal}
 use Rattle.powercut.specs.PowerCut.{Planner, updated, Partway, Completes, PowerCutSafe}
+use Rattle.powercut.proofs.Laws.States.{standing}
 use Rattle.powercut.proofs.Laws.Region.{updated-at}
 use Rattle.powercut.proofs.Laws.Samples.{fe, wordPlan}
 use Rattle.run.proofs.Laws.Trace.{stateBehind, byteBehind, traced}
@@ -52,11 +52,10 @@ module _ (records : List Record) (wp : Bool) (chip : Device) (start : ℕ) (want
 abbrev pub nothingPlanned : Planner
 nothingPlanned s array start wanted = []
 
-pub empty-script-turned-away : (s : State) (wp : Bool) (array : List ℕ) (start : ℕ) (wanted : List ℕ) (room k : ℕ) → k < length array
-    → within start (length wanted) k ≡ true → (getD array k 0 ≡ getD wanted (k - start) 0 → ⊥) → PowerCutSafe nothingPlanned s wp array start wanted room → ⊥
+pub empty-script-turned-away : (wp : Bool) (chip : Device) (start : ℕ) (wanted : List ℕ) (room k : ℕ) → k < length (chip .array)
+    → within start (length wanted) k ≡ true → (getD (chip .array) k 0 ≡ getD wanted (k - start) 0 → ⊥) → PowerCutSafe nothingPlanned wp chip start wanted room → ⊥
 unfolding run
-empty-script-turned-away s wp array start wanted room k low i differs h =
-    differs (wanted-there [] wp (device s array) start wanted (h .uncut) k low i)
+empty-script-turned-away wp chip start wanted room k low i differs h = differs (wanted-there [] wp chip start wanted (h .uncut) k low i)
 
 -- ---- the F25L008A: 012345 is FF, wanted FE
 
@@ -111,10 +110,13 @@ module _ (wp : Bool) where
   unfolding planRefusal isSound isKnown poweredUp newState chipOf firstProtected commandOf byKind kindOf stateAfter timePassed cycleEnded writable address
   aai-unsound array room = refl
 
-  module _ (array : List ℕ) (sized : length array ≡ 1048576) (byte : getD array 0x12345 0 ≡ 0xff) where
-    ready : (bp : ℕ) → isSound (atRest 8 bp false false) ≡ true → Ready (device (atRest 8 bp false false) array)
-    unfolding chipOf
-    ready bp e = record { sound = sound-of (atRest 8 bp false false) e; sized = sized }
+  module _ (given : Device) (array : List ℕ) (sized : length array ≡ 1048576) (byte : getD array 0x12345 0 ≡ 0xff) where
+    -- a new chip, and one whose protection is off
+    abbrev new : Device
+    new = standing given (atRest 8 7 false false) array
+
+    abbrev unprotected : Device
+    unprotected = standing given (atRest 8 0 false false) array
 
     planned : withoutStatus (atRest 8 7 false false) array 0x12345 fe ≡ wordPlan
     unfolding programStep changes wantedAt within chipOf wordsStep changingWords joined runsOf furtherRecords runRecords runsRecords
@@ -125,24 +127,22 @@ module _ (wp : Bool) where
     zero-planned = rw byte refl
 
     -- step 1 missing, on a new chip: uncut, 012345 stays FF
-    pub step-one-missing : (room : ℕ) → PowerCutSafe withoutStatus (atRest 8 7 false false) wp array 0x12345 fe room → ⊥
-    unfolding isSound isKnown chipOf within
+    pub step-one-missing : (room : ℕ) → PowerCutSafe withoutStatus wp new 0x12345 fe room → ⊥
+    unfolding within
     step-one-missing room h =
-        let chip : Device = device (atRest 8 7 false false) array in
         let low : 0x12345 < length array = rw sized (omega arith) in
-        let c : Completes wordPlan wp chip (updated array 0x12345 fe) = rw planned at (h .uncut) in
-        let is = traced wp wordPlan chip (ready 7 refl) ((omega arith, omega arith), ((omega arith, omega arith), (omega arith, ((omega arith, omega arith), tt)))) .byte-is 0x12345 low in
-        omega (arith, is ∙ word-ignored 0x12345 (getD array 0x12345 0) ∙ byte, wanted-there wordPlan wp chip 0x12345 fe c 0x12345 low refl)
+        let c : Completes wordPlan wp new (updated array 0x12345 fe) = rw planned at (h .uncut) in
+        let is = traced wp wordPlan new .byte-is 0x12345 low in
+        omega (arith, is ∙ word-ignored 0x12345 (getD array 0x12345 0) ∙ byte, wanted-there wordPlan wp new 0x12345 fe c 0x12345 low refl)
 
     -- a byte outside the region sent as 00: uncut, 012344 becomes 00
-    pub zero-outside : getD array 0x12344 0 ≡ 0xff → (room : ℕ) → PowerCutSafe zeroOutside (atRest 8 0 false false) wp array 0x12345 fe room → ⊥
-    unfolding isSound isKnown chipOf within firstProtected
+    pub zero-outside : getD array 0x12344 0 ≡ 0xff → (room : ℕ) → PowerCutSafe zeroOutside wp unprotected 0x12345 fe room → ⊥
+    unfolding within
     zero-outside neighbour room h =
-        let chip : Device = device (atRest 8 0 false false) array in
         let low : 0x12344 < length array = rw sized (omega arith) in
-        let c : Completes zeroRecords wp chip (updated array 0x12345 fe) = rw zero-planned at (h .uncut) in
-        let is = traced wp zeroRecords chip (ready 0 refl) ((omega arith, omega arith), ((omega arith, omega arith), (omega arith, ((omega arith, omega arith), tt)))) .byte-is 0x12344 low in
-        omega (arith, (rw neighbour at is) ∙ zero-sent, same-there zeroRecords wp chip 0x12345 fe c 0x12344 low refl, neighbour)
+        let c : Completes zeroRecords wp unprotected (updated array 0x12345 fe) = rw zero-planned at (h .uncut) in
+        let is = traced wp zeroRecords unprotected .byte-is 0x12344 low in
+        omega (arith, (rw neighbour at is) ∙ zero-sent, same-there zeroRecords wp unprotected 0x12345 fe c 0x12344 low refl, neighbour)
 
     -- the mask takes the data's bit: cut inside the word, 012344 rises from 00 to FF
     pub data-masked : getD array 0x12344 0 ≡ 0x00
@@ -158,8 +158,5 @@ module _ (wp : Bool) where
 
     -- power-up keeps AAI: planning again is refused, whatever the room
     pub aai-kept : (room : ℕ)
-        → planRefusal (aaiKept (run wp begun (device (atRest 8 0 false false) array) .state)) wp (run wp begun (device (atRest 8 0 false false) array) .array) 0x12345 fe room ≡ stateNotSound
-    unfolding isSound isKnown chipOf firstProtected
-    aai-kept room =
-        let is = traced wp begun (device (atRest 8 0 false false) array) (ready 0 refl) ((omega arith, omega arith), ((omega arith, omega arith), (omega arith, tt))) .state-is in
-        rw is (aai-unsound (run wp begun (device (atRest 8 0 false false) array) .array) room)
+        → planRefusal (aaiKept (run wp begun unprotected .state)) wp (run wp begun unprotected .array) 0x12345 fe room ≡ stateNotSound
+    aai-kept room = rw (traced wp begun unprotected .state-is) (aai-unsound (run wp begun unprotected .array) room)

@@ -48,18 +48,18 @@ module _ (w : ℕ → ℕ) (a n : ℕ) (one-page : a % 256 + n ≤ 256) where
   page-touches : (k : ℕ) → a ≤ k → k < a + n → touches (pageEffect a n) k ≡ true
   page-touches k h l = rw straight (program-touches a n 4 k h l)
 
-module _ (t : Task) (d : ℕ → Bool) (bp : ℕ) (held : HeldBy (t .state) (rest (t .state) bp false false)) (no-words : dataOf (t .state) .«word_plans» ≡ false)
-    (calm : (k : ℕ) → d k ≡ false → k < length (t .array) → Settled (t .want) (t .array) k)
-    (free : (k : ℕ) → d k ≡ true → k < border (t .state) bp) where
+module _ (t : Task) (d : ℕ → Bool) (bp : ℕ) (held : HeldBy (t .chip .state) (rest (t .chip .state) bp false false)) (no-words : dataOf (t .chip .state) .«word_plans» ≡ false)
+    (calm : (k : ℕ) → d k ≡ false → k < length (t .chip .array) → Settled (t .want) (t .chip .array) k)
+    (free : (k : ℕ) → d k ≡ true → k < border (t .chip .state) bp) where
   abbrev s : State
-  s = t .state
+  s = t .chip .state
 
   abbrev w : ℕ → ℕ
   w = t .want
 
   -- n bytes from address a within a page, the first of them one that changes; below z all others are settled
   part-ran : (a n z : ℕ) (wel armed : Bool) (array : List ℕ) → (0 < n → d a ≡ true) → (0 < n → a % 256 + n ≤ 256) → OnItsWay t array
-      → ((k : ℕ) → k < z → (k < a) ⊎ (a + n ≤ k) → k < length (t .array) → Settled w array k)
+      → ((k : ℕ) → k < z → (k < a) ⊎ (a + n ≤ k) → k < length (t .chip .array) → Settled w array k)
       → Runs t (stateAfterPlan (partRecords w a n) (rest s bp wel armed)) z (partRecords w a n) (rest s bp wel armed) array
   part-ran a zero z wel armed array first one near others =
       rw (part-records-none w a) (ran-nil t z held near (λ k h. others k h (⊎-elim (λ l. inl l) (λ l. inr (omega arith)) (split k a))))
@@ -68,7 +68,7 @@ module _ (t : Task) (d : ℕ → Bool) (bp : ℕ) (held : HeldBy (t .state) (res
       let f : List ℕ = sent w a (suc n) page in
       let e : Effect = pageEffect a (suc n) in
       let programs = page-programs w a (suc n) page in
-      let near-then = near-changed (t .array) w array near e f programs in
+      let near-then = near-changed (t .chip .array) w array near e f programs in
       rw (part-records-some w a n)
       (ran-quiet t WriteEnable (write-enable (t .level) s bp wel armed) refl held near
       (rw (after-write-enable (rest s bp wel armed))
@@ -78,16 +78,16 @@ module _ (t : Task) (d : ℕ → Bool) (bp : ℕ) (held : HeldBy (t .state) (res
       (rw (after-program-page (rest s bp true true) a (suc n))
       (ran-wait t (rest s bp false false) (page-done (t .level) s bp) held near-then
       (ran-nil t z held near-then
-      (λ k h l. ⊎-elim (λ i. settled-changed (t .array) w array near e f programs k l (others k h (inl i) l))
-      (λ i. ⊎-elim (λ j. settled-touched (t .array) w array near e f programs k l (page-touches w a (suc n) page k i j))
-      (λ j. settled-changed (t .array) w array near e f programs k l (others k h (inr j) l)) (split k (a + suc n))) (split k a))))))))
+      (λ k h l. ⊎-elim (λ i. settled-changed (t .chip .array) w array near e f programs k l (others k h (inl i) l))
+      (λ i. ⊎-elim (λ j. settled-touched (t .chip .array) w array near e f programs k l (page-touches w a (suc n) page k i j))
+      (λ j. settled-changed (t .chip .array) w array near e f programs k l (others k h (inr j) l)) (split k (a + suc n))) (split k a))))))))
 
   -- in a page, what comes before the first changing byte or behind the last is settled as it stands
   page-others : (page : ℕ) (array : List ℕ) → OnItsWay t array → Done t page array → (k : ℕ) → k < page + 256
-      → (k < page + beforeFirst d 256 page) ⊎ (page + beforeFirst d 256 page + partLength d page ≤ k) → k < length (t .array) → Settled w array k
+      → (k < page + beforeFirst d 256 page) ⊎ (page + beforeFirst d 256 page + partLength d page ≤ k) → k < length (t .chip .array) → Settled w array k
   page-others page array near done k h others l =
       ⊎-elim (λ i. done k i l)
-      (λ i. settled-start (t .array) w array near k l (calm k
+      (λ i. settled-start (t .chip .array) w array near k l (calm k
       (⊎-elim (λ o. first-false d 256 page k i o) (λ o. part-behind d page k o h) others) l))
       (split k page)
 

@@ -16,7 +16,7 @@ use Rattle.state.proofs.Laws.Protection.{first-by, open-at-0}
 use Rattle.state.proofs.Laws.Soundness.{sound-of}
 use Rattle.script.specs.Record.{Record}
 use Rattle.common.specs.Bits.{Bytes}
-use Rattle.run.specs.Run.{device}
+use Rattle.frame.specs.Device.{Device}
 use Rattle.region.specs.Region.{wantedAt, changes}
 use Rattle.region.proofs.Laws.Region.{change-in-region}
 use Rattle.words.specs.Words.{wordsIn}
@@ -26,7 +26,7 @@ use Rattle.plan.specs.Refusals.{Accepted}
 use Rattle.plan.proofs.Laws.Steps.{not-needed-free, status-records, program-words, program-pages}
 use Rattle.plan.proofs.Laws.Plan.{plan-with-status, plan-without-status, plan-fits}
 use Rattle.powercut.specs.PowerCut.{stateAfterPlan}
-use Rattle.powercut.proofs.Laws.States.{rest, border, quiet-stays}
+use Rattle.powercut.proofs.Laws.States.{standing, rest, border, quiet-stays}
 use Rattle.powercut.proofs.Laws.Near.{near-start}
 use Rattle.powercut.proofs.Laws.Safe.{Task}
 use Rattle.powercut.proofs.Laws.Run.{Done, Ran, Runs, OnItsWay, ran-append}
@@ -43,13 +43,19 @@ let-through true true e = refl
 let-through true false e = sym e
 let-through false wp e = refl
 
-module _ (given : State) (bp : ℕ) (wel armed : Bool) (wp : Bool) (array : List ℕ) (start : ℕ) (wanted : List ℕ) (room : ℕ) (bytes : Bytes array)
-    (accepted : Accepted (rest given bp wel armed) wp array start wanted room) where
+module _ (given : Device) (bp : ℕ) (wel armed : Bool) (wp : Bool) (start : ℕ) (wanted : List ℕ) (room : ℕ) (bytes : Bytes (given .array))
+    (accepted : Accepted (rest (given .state) bp wel armed) wp (given .array) start wanted room) where
   abbrev pub s : State
-  s = rest given bp wel armed
+  s = rest (given .state) bp wel armed
+
+  abbrev array : List ℕ
+  array = given .array
+
+  abbrev pub chip : Device
+  chip = standing given s array
 
   abbrev pub task : Task
-  task = record { level = wp; state = s; array = array; want = wantedAt start wanted; bytes = bytes; sized = accepted .region .sized }
+  task = record { level = wp; chip = chip; want = wantedAt start wanted; bytes = bytes }
 
   abbrev pub end : ℕ
   end = start + length wanted
@@ -100,7 +106,7 @@ module _ (given : State) (bp : ℕ) (wel armed : Bool) (wp : Bool) (array : List
       program-ran bp (inl refl)
       (λ k c. rw (first-by (rest s bp false false) s refl refl) (not-needed-free s array start wanted needed k c)) wel armed array (near-start array (wantedAt start wanted))
 
-  pub plan-ran : Ran task (stateAfterPlan (planRecords s array start wanted) s) end (planRecords s array start wanted) (device s array)
+  pub plan-ran : Ran task (stateAfterPlan (planRecords s array start wanted) s) end (planRecords s array start wanted) chip
   plan-ran =
       let runs : Runs task (stateAfterPlan (planRecords s array start wanted) s) end (planRecords s array start wanted) s array =
       cases (stepOneNeeded s array start wanted)

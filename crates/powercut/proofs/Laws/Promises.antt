@@ -11,7 +11,7 @@ use Rattle.state.specs.declared.State.{State}
 use Rattle.state.specs.State.{withWel, withArmed}
 use Rattle.script.specs.Record.{Record}
 use Rattle.common.specs.Bits.{Bytes, bitAt}
-use Rattle.run.specs.Run.{Device}
+use Rattle.frame.specs.Device.{Device}
 use Rattle.common.specs.Lists.{within}
 use Rattle.plan.specs.Plan.{planRecords}
 use Rattle.plan.specs.Refusals.{planRefusal}
@@ -24,29 +24,30 @@ rested-by : (rs : List Record) (s : State) → (stateAfterPlan rs s ≡ s) ⊎ (
 rested-by [] s = inl refl
 rested-by (r ∷ rs) s = inr refl
 
-pub promises-kept : (s : State) (wp : Bool) (array : List ℕ) (start : ℕ) (wanted : List ℕ) (room : ℕ) → Bytes array
-    → planRefusal s wp array start wanted room ≡ 0 → Promises s wp array start wanted room
+pub promises-kept : (wp : Bool) (chip : Device) (start : ℕ) (wanted : List ℕ) (room : ℕ) → Bytes (chip .array)
+    → planRefusal (chip .state) wp (chip .array) start wanted room ≡ 0 → Promises wp chip start wanted room
 unfolding Finished PowerLost
-promises-kept s wp array start wanted room bytes e =
-    let safe = power-cut-safe s wp array start wanted room bytes e in
+promises-kept wp chip start wanted room bytes e =
+    let safe = power-cut-safe wp chip start wanted room bytes e in
     record {
-      finished = λ chip f. ap (λ (d : Device). d .array) f ∙ safe .uncut .array-is;
-      rested = λ chip f. rw (ap (λ (d : Device). d .state) f ∙ safe .uncut .state-is) (rested-by (planRecords s array start wanted) s);
-      kept-length = λ chip c. safe .cut chip c .partway .same-length;
-      bits = λ chip c. safe .cut chip c .partway .region;
-      outside = λ chip c. safe .cut chip c .partway .outside;
-      again = λ chip c. safe .cut chip c .accepted;
-      completed = λ cut chip c f. ap (λ (d : Device). d .array) f ∙ safe .cut cut c .completes .array-is;
+      finished = λ after f. ap (λ (d : Device). d .array) f ∙ safe .uncut .array-is;
+      rested = λ after f. rw (ap (λ (d : Device). d .state) f ∙ safe .uncut .state-is)
+          (rested-by (planRecords (chip .state) (chip .array) start wanted) (chip .state));
+      kept-length = λ after c. safe .cut after c .partway .same-length;
+      bits = λ after c. safe .cut after c .partway .region;
+      outside = λ after c. safe .cut after c .partway .outside;
+      again = λ after c. safe .cut after c .accepted;
+      completed = λ cut after c f. ap (λ (d : Device). d .array) f ∙ safe .cut cut c .completes .array-is;
     }
 
 -- ---- from the promises alone
 
 -- a bit that was not to change, in the region or outside it, is as it was, wherever the power was cut
-pub unwanted-bit-stays : {s : State} {wp : Bool} {array : List ℕ} {start : ℕ} {wanted : List ℕ} {room : ℕ} → Promises s wp array start wanted room
-    → (chip : Device) → PowerLost s wp array start wanted chip → (k b : ℕ)
-    → (within start (length wanted) k ≡ true → bitAt (getD wanted (k - start) 0) b ≡ bitAt (getD array k 0) b)
-    → bitAt (getD (chip .array) k 0) b ≡ bitAt (getD array k 0) b
-unwanted-bit-stays {s} {wp} {array} {start} {wanted} {room} p chip c k b same =
+pub unwanted-bit-stays : {wp : Bool} {chip : Device} {start : ℕ} {wanted : List ℕ} {room : ℕ} → Promises wp chip start wanted room
+    → (after : Device) → PowerLost wp chip start wanted after → (k b : ℕ)
+    → (within start (length wanted) k ≡ true → bitAt (getD wanted (k - start) 0) b ≡ bitAt (getD (chip .array) k 0) b)
+    → bitAt (getD (after .array) k 0) b ≡ bitAt (getD (chip .array) k 0) b
+unwanted-bit-stays {wp} {chip} {start} {wanted} {room} p after c k b same =
     cases (within start (length wanted) k)
-    (λ i. ⊎-elim (λ e. e) (λ e. e ∙ same i) (p .bits chip c k b i))
-    (λ i. ap (λ (x : ℕ). bitAt x b) (p .outside chip c k i))
+    (λ i. ⊎-elim (λ e. e) (λ e. e ∙ same i) (p .bits after c k b i))
+    (λ i. ap (λ (x : ℕ). bitAt x b) (p .outside after c k i))

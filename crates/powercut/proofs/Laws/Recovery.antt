@@ -17,7 +17,7 @@ use Rattle.state.proofs.Laws.Power.{powered-up-sound, powered-up-keeps, powered
 use Rattle.state.proofs.Laws.Protection.{first-by, open-at-0}
 use Rattle.state.proofs.Laws.Soundness.{of-sound}
 use Rattle.common.specs.Bits.{Bytes}
-use Rattle.run.specs.Run.{Device, device}
+use Rattle.frame.specs.Device.{Device, withState}
 use Rattle.region.specs.Region.{wantedAt, changes}
 use Rattle.region.proofs.Laws.Region.{change-in-region}
 use Rattle.plan.specs.Plan.{stepOneNeeded, planRecords}
@@ -25,7 +25,7 @@ use Rattle.plan.specs.Refusals.{Accepted}
 use Rattle.plan.proofs.Laws.Steps.{not-needed-free, free-not-needed}
 use Rattle.plan.proofs.Laws.Refusals.{of-accepted}
 use Rattle.powercut.specs.PowerCut.{Recovers}
-use Rattle.powercut.proofs.Laws.States.{rest}
+use Rattle.powercut.proofs.Laws.States.{standing, rest}
 use Rattle.powercut.proofs.Laws.Near.{near-bytes}
 use Rattle.powercut.proofs.Laws.Safe.{Task, Safe}
 use Rattle.powercut.proofs.Laws.Region.{partway, changes-fewer, falls-still, updated-same}
@@ -52,13 +52,16 @@ off : (a b c : Bool) → b && c ≡ false → a && b && c ≡ false
 off true b c e = e
 off false b c e = refl
 
-module _ (given : State) (bp : ℕ) (wel armed : Bool) (wp : Bool) (array : List ℕ) (start : ℕ) (wanted : List ℕ) (room : ℕ) (bytes : Bytes array)
-    (accepted : Accepted (rest given bp wel armed) wp array start wanted room) where
+module _ (given : Device) (bp : ℕ) (wel armed : Bool) (wp : Bool) (start : ℕ) (wanted : List ℕ) (room : ℕ) (bytes : Bytes (given .array))
+    (accepted : Accepted (rest (given .state) bp wel armed) wp (given .array) start wanted room) where
   abbrev s : State
-  s = rest given bp wel armed
+  s = rest (given .state) bp wel armed
+
+  abbrev array : List ℕ
+  array = given .array
 
   abbrev t : Task
-  t = task given bp wel armed wp array start wanted room bytes accepted
+  t = task given bp wel armed wp start wanted room bytes accepted
 
   fits : start + length wanted ≤ length array
   fits = rw (accepted .region .sized) (accepted .region .fits)
@@ -106,12 +109,12 @@ module _ (given : State) (bp : ℕ) (wel armed : Bool) (wp : Bool) (array : List
       roomy = omega (arith, accepted .roomy, plan-22-longer now array start wanted fewer again s (safe .held .same-chip));
     }
 
-    pub recovers : Recovers planRecords wp array start wanted (room + 22) (device (poweredUp (d .state)) now)
+    pub recovers : Recovers planRecords wp array start wanted (room + 22) (withState d (poweredUp (d .state)))
     recovers =
         rw (woken .is)
         record {
           partway = partway array start wanted bytes now (safe .near) fits;
           accepted = of-accepted again now start wanted wp (room + 22) accepted-again;
           completes = rw (← (updated-same array start wanted bytes now (safe .near)))
-              (completes again (woken .bp) false false wp now start wanted (room + 22) (near-bytes array (wantedAt start wanted) now (safe .near) bytes) accepted-again);
+              (completes (standing d again now) (woken .bp) false false wp start wanted (room + 22) (near-bytes array (wantedAt start wanted) now (safe .near) bytes) accepted-again);
         }

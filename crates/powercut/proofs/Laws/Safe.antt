@@ -1,33 +1,30 @@
 -- Every place where the power can be cut while records are run, and what a cut may meet there: a sound state, its protection held, the array on its way.
 -- Over any chip, and any byte wanted at each address.
 -- Assumes nothing.
-use mathlib.Core.Path.{_≡_, refl, _∙_}
+use mathlib.Core.Path.{_≡_}
 use mathlib.Core.Bool.{Bool}
 use mathlib.Core.List.{List, [], _∷_, _++_}
 use mathlib.Core.Logic.{_⊎_}
 use Prim.Native.Nat.{ℕ}
-use lib.ListN.{length}
 use Rattle.common.specs.Lists.{mapi}
 use Rattle.state.specs.declared.State.{State}
-use Rattle.state.specs.State.{dataOf}
 use Rattle.state.specs.Soundness.{Sound}
-use Rattle.script.specs.Record.{Record, frame, wait, Fits}
+use Rattle.script.specs.Record.{Record, frame, wait}
 use Rattle.effect.specs.Cut.{cut}
-use Rattle.frame.specs.Call.{effectAt, stateAt}
-use Rattle.frame.proofs.Laws.Accepted.{Accepted}
+use Rattle.frame.specs.Device.{Device}
+use Rattle.frame.specs.Ran.{effectAt, stateAt}
 use Rattle.common.specs.Bits.{Bytes}
-use Rattle.run.specs.Run.{Device, device, step, run}
+use Rattle.run.specs.Run.{step, run}
 use Rattle.run.proofs.Laws.Run.{run-none, run-first}
 use Rattle.powercut.proofs.Laws.Near.{Near}
+use Rattle.powercut.proofs.Laws.States.{standing}
 
 -- a chip as it was given, the level, and the byte that is wanted at each address
 pub record Task : Type 0 where
   pub level : Bool
-  pub state : State
-  pub array : List ℕ
+  pub chip : Device
   pub want : ℕ → ℕ
-  pub bytes : Bytes array
-  pub sized : length array ≡ dataOf state .size
+  pub bytes : Bytes (chip .array)
 
 -- the protection bits are the given ones, or BP is 000
 pub record Held (given : State) (chip bp : ℕ) (tb bpl : Bool) : Type 0 where
@@ -43,13 +40,13 @@ module _ (t : Task) where
   -- what a cut may meet: the array is on its way
   pub record Safe (d : Device) : Type 0 where
     pub sound : Sound (d .state)
-    pub held : HeldBy (t .state) (d .state)
-    pub near : Near (t .array) (t .want) (d .array)
+    pub held : HeldBy (t .chip .state) (d .state)
+    pub near : Near (t .chip .array) (t .want) (d .array)
 
   -- an interrupted frame, before the power is back
   abbrev pub torn : List ℕ → List ℕ → Device → Device
   torn f mask d =
-      device (stateAt (d .state) (t .level) f) (mapi (cut (effectAt (d .state) (t .level) f) f mask) (d .array))
+      standing d (stateAt (d .state) (t .level) f) (mapi (cut (effectAt (d .state) (t .level) f) f mask) (d .array))
 
   abbrev pub Inside : Record → Device → Type 0
   Inside (frame f) d = (mask : List ℕ) → Bytes mask → Safe (torn f mask d)
@@ -77,13 +74,3 @@ module _ (t : Task) where
   pub always-inside : (rs ss : List Record) (f : List ℕ) (d : Device) → Always (rs ++ (frame f ∷ ss)) d → Inside (frame f) (run (t .level) rs d)
   always-inside [] ss f d h = rw (run-none (t .level) d) (h .1 .0)
   always-inside (r ∷ rs) ss f d h = rw (run-first (t .level) r rs d) (always-inside rs ss f (step (t .level) r d) (h .1 .1))
-
-  -- a frame's call is accepted wherever a cut may come
-  pub safe-accepted : (d : Device) (f : List ℕ) → Safe d → Fits (frame f) → Accepted (d .state) (length (d .array)) (length f) (length f)
-  safe-accepted d f h fits = record {
-    sound = h .sound;
-    sized = h .near .same-length ∙ rw (h .held .same-chip) (t .sized);
-    some = fits .0;
-    short = fits .1;
-    same = refl;
-  }

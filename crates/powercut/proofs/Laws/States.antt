@@ -1,5 +1,5 @@
--- The states that a plan takes a chip through, from the given one: at rest, in AAI, busy with a page; and the state behind a part of a plan.
--- Made by the setters, so that a further field stays as given.
+-- The chips that a plan takes the given one through, and their states: at rest, in AAI, busy with a page; and the state behind a part of a plan.
+-- Made by the builder and the setters, so that a further part or field stays as given.
 -- Assumes nothing.
 use mathlib.Core.Path.{_≡_, refl, ap, ap₂, _∙_}
 use mathlib.Core.Bool.{Bool, true, false}
@@ -10,7 +10,12 @@ use Rattle.state.specs.State.{withLeft, withWel, withArmed, withPowerDown, with
 use Rattle.state.specs.Protection.{firstProtected}
 use Rattle.state.specs.Soundness.{Sound}
 use Rattle.script.specs.Record.{Record}
+use Rattle.frame.specs.Device.{Device}
 use Rattle.powercut.specs.PowerCut.{stateAfterPlan}
+
+-- a chip on the way of a plan: the given one, with other registers and another array
+abbrev pub standing : Device → State → List ℕ → Device
+standing given s array = record { state = s; array = array }
 
 -- nothing going on
 abbrev calmed : State → State

@@ -60,9 +60,9 @@ status-written s bp to wel low topped =
 pub held-at : (given : State) (bp : ℕ) → (bp ≡ given .bp) ⊎ (bp ≡ 0) → Held given (given .chip) bp (given .tb) (given .bpl)
 held-at given bp l = record { same-chip = refl; level-held = l; same-tb = refl; same-bpl = refl }
 
-module _ (t : Task) (topped : t .state .tb ≡ true → dataOf (t .state) .«top_bottom» ≡ true) (free : not (t .state .bpl) || t .level ≡ true) where
+module _ (t : Task) (topped : t .chip .state .tb ≡ true → dataOf (t .chip .state) .«top_bottom» ≡ true) (free : not (t .chip .state .bpl) || t .level ≡ true) where
   abbrev s : State
-  s = t .state
+  s = t .chip .state
 
   -- from one level to another
   module _ (bp to : ℕ) (held : (bp ≡ s .bp) ⊎ (bp ≡ 0)) (held-to : (to ≡ s .bp) ⊎ (to ≡ 0)) (low : to ≤ 7)

@@ -18,11 +18,13 @@ use Rattle.state.specs.Power.{atRest, newState, stateRefusal, poweredUp, powerU
 use Rattle.state.specs.Soundness.{isSound}
 use Rattle.script.specs.Record.{encodeRecord, encode}
 use Rattle.common.proofs.Laws.Bits.{bytes-within}
-use Rattle.run.specs.Run.{Device, device, run}
+use Rattle.frame.specs.Device.{Device}
+use Rattle.run.specs.Run.{run}
 use Rattle.region.specs.Region.{wantedAt, changes, rises, anyOf}
 use Rattle.plan.specs.Plan.{stepOneNeeded, planRecords}
 use Rattle.plan.specs.Refusals.{planRefusal}
 use Rattle.powercut.specs.PowerCut.{CutShort, between, PowerCutSafe}
+use Rattle.powercut.proofs.Laws.States.{standing}
 use Rattle.powercut.proofs.Laws.PowerCut.{power-cut-safe}
 use Rattle.powercut.proofs.Laws.Samples.{fe}
 use Rattle.powercut.proofs.Laws.Samples
@@ -75,30 +77,30 @@ erased-at n k h = getD-tab n (λ k. 0xff) k 0 h
 pub erased-bytes : (n : ℕ) → Bytes (erased n)
 erased-bytes n = bytes-within (erased n) (λ k h. rw (erased-at n k (rw (erased-length n) at h)) (omega arith))
 
-pub safe-008a : PowerCutSafe planRecords (atRest 8 0 false false) true (erased 1048576) 0x12345 fe 26
-safe-008a =
-    power-cut-safe (atRest 8 0 false false) true (erased 1048576) 0x12345 fe 26 (erased-bytes 1048576)
+pub safe-008a : (given : Device) → PowerCutSafe planRecords true (standing given (atRest 8 0 false false) (erased 1048576)) 0x12345 fe 26
+safe-008a given =
+    power-cut-safe true (standing given (atRest 8 0 false false) (erased 1048576)) 0x12345 fe 26 (erased-bytes 1048576)
     (words-open true (erased 1048576) (erased-length 1048576) (erased-at 1048576 0x12345 (omega arith)) .enough)
 
-pub safe-05pa : PowerCutSafe planRecords (atRest 5 0 false false) true (erased 65536) 0x1234 fe 20
-safe-05pa =
-    power-cut-safe (atRest 5 0 false false) true (erased 65536) 0x1234 fe 20 (erased-bytes 65536)
+pub safe-05pa : (given : Device) → PowerCutSafe planRecords true (standing given (atRest 5 0 false false) (erased 65536)) 0x1234 fe 20
+safe-05pa given =
+    power-cut-safe true (standing given (atRest 5 0 false false) (erased 65536)) 0x1234 fe 20 (erased-bytes 65536)
     (page-open true (erased 65536) (erased-length 65536) (erased-at 65536 0x1234 (omega arith)) .enough)
 
 -- ---- 21 bytes more are too few
 
 -- there is a cut after which planning again is refused
-pub record TooFew (s : State) (wp : Bool) (array : List ℕ) (start : ℕ) (wanted : List ℕ) (room : ℕ) : Type 0 where
-  pub chip : Device
-  pub cut : CutShort (planRecords s array start wanted) wp (device s array) chip
-  pub refused : planRefusal (chip .state) wp (chip .array) start wanted room ≡ bufferTooShort
+pub record TooFew (wp : Bool) (chip : Device) (start : ℕ) (wanted : List ℕ) (room : ℕ) : Type 0 where
+  pub after : Device
+  pub cut : CutShort (planRecords (chip .state) (chip .array) start wanted) wp chip after
+  pub refused : planRefusal (after .state) wp (after .array) start wanted room ≡ bufferTooShort
 
 -- the F25L008A without protection, its power cut before the first record: BP is 111 then, and 48 bytes are needed in place of 26
-pub twenty-one-too-few : (wp : Bool) (array : List ℕ) → length array ≡ 1048576 → getD array 0x12345 0 ≡ 0xff
-    → TooFew (atRest 8 0 false false) wp array 0x12345 fe (26 + 21)
+pub twenty-one-too-few : (wp : Bool) (given : Device) (array : List ℕ) → length array ≡ 1048576 → getD array 0x12345 0 ≡ 0xff
+    → TooFew wp (standing given (atRest 8 0 false false) array) 0x12345 fe (26 + 21)
 unfolding run powerUp stateRefusal poweredUp newState isSound isKnown chipOf firstProtected
-twenty-one-too-few wp array sized byte = record {
-  chip = device (atRest 8 7 false false) array;
+twenty-one-too-few wp given array sized byte = record {
+  after = standing given (atRest 8 7 false false) array;
   cut = between [] (planRecords (atRest 8 0 false false) array 0x12345 fe) refl;
   refused = words-protected wp array sized byte .too-little;
 }

@@ -55,11 +55,11 @@ word-programs w a i f x y = program-programs w f a 2 i sent
     sent (suc zero) h = y
     sent (suc (suc j)) h = absurd (omega arith)
 
-module _ (t : Task) (d : ℕ → Bool) (bp : ℕ) (held : HeldBy (t .state) (rest (t .state) bp false false)) (has-words : dataOf (t .state) .«word_plans» ≡ true)
-    (calm : (k : ℕ) → d k ≡ false → k < length (t .array) → Settled (t .want) (t .array) k)
-    (free : (k : ℕ) → d k ≡ true → k < border (t .state) bp) where
+module _ (t : Task) (d : ℕ → Bool) (bp : ℕ) (held : HeldBy (t .chip .state) (rest (t .chip .state) bp false false)) (has-words : dataOf (t .chip .state) .«word_plans» ≡ true)
+    (calm : (k : ℕ) → d k ≡ false → k < length (t .chip .array) → Settled (t .want) (t .chip .array) k)
+    (free : (k : ℕ) → d k ≡ true → k < border (t .chip .state) bp) where
   abbrev s : State
-  s = t .state
+  s = t .chip .state
 
   abbrev w : ℕ → ℕ
   w = t .want
@@ -88,7 +88,7 @@ module _ (t : Task) (d : ℕ → Bool) (bp : ℕ) (held : HeldBy (t .state) (res
   skipped : (a : ℕ) (array : List ℕ) → wordChanges d a ≡ false → OnItsWay t array → Done t a array → Done t (a + 2) array
   skipped a array e near done k h l =
       ⊎-elim (λ i. done k i l)
-      (λ i. settled-start (t .array) w array near k l (calm k
+      (λ i. settled-start (t .chip .array) w array near k l (calm k
       (cases (eqb k a) (λ j. ap d (eqb-true k a j) ∙ or-none-l (d a) (d (a + 1)) e)
       (λ j. let next : k ≡ a + 1 = omega (arith, eqb-false k a j) in ap d next ∙ or-none-r (d a) (d (a + 1)) e)) l))
       (split k a)
@@ -106,13 +106,13 @@ module _ (t : Task) (d : ℕ → Bool) (bp : ℕ) (held : HeldBy (t .state) (res
 
     written : OnItsWay t array → Done t a array → Done t (a + 2) after
     written near done k h l =
-        ⊎-elim (λ b. settled-changed (t .array) w array near (Program a 2 i) f programs k l (done k b l))
-        (λ b. settled-touched (t .array) w array near (Program a 2 i) f programs k l (program-touches a 2 i k b h)) (split k a)
+        ⊎-elim (λ b. settled-changed (t .chip .array) w array near (Program a 2 i) f programs k l (done k b l))
+        (λ b. settled-touched (t .chip .array) w array near (Program a 2 i) f programs k l (program-touches a 2 i k b h)) (split k a)
 
     word-waited : (z : ℕ) → z ≤ a + suc n * 2 → a % 2 ≡ 0 → OnItsWay t array → Done t a array
         → Runs t (rest s bp false false) z (wait 7 ∷ words w d true n (a + 2)) (running s bp 7 (a + 2)) after
     word-waited z h e near done =
-        let near-then = near-changed (t .array) w array near (Program a 2 i) f programs in
+        let near-then = near-changed (t .chip .array) w array near (Program a 2 i) f programs in
         let done-then = written near done in
         ⊎-elim
         (λ l. ran-wait t (running s bp 0 (a + 2)) (word-done s bp (a + 2) l) held near-then

@@ -1,25 +1,25 @@
 -- The laws of `run` and `outputs`: records one after another (`-append`), how long the outputs are, and what every run keeps.
 -- Assumes nothing.
 use mathlib.Core.Path.{_≡_, refl, sym, ap, _∙_}
-use mathlib.Core.Bool.{Bool, true}
+use mathlib.Core.Bool.{Bool}
 use mathlib.Core.List.{List, [], _∷_, _++_, append-assoc}
 use Prim.Native.Nat.{ℕ}
 use native.Mathlib.Omega.{arith}
 use lib.ListN.{length, length-append}
 use Rattle.state.specs.State.{dataOf}
-use Rattle.state.specs.Soundness.{isSound, Sound}
-use Rattle.state.specs.Time.{passTime}
-use Rattle.state.proofs.Laws.Soundness.{sound-of, of-sound}
-use Rattle.state.proofs.Laws.Passed.{pass-time-chip, pass-time-sound}
+use Rattle.state.specs.Answer.{granted}
+use Rattle.state.specs.Soundness.{Sound}
+use Rattle.state.specs.Time.{timePassed, passTime}
+use Rattle.state.proofs.Laws.Passed.{time-passed-chip, pass-time-granted}
+use Rattle.state.proofs.Laws.Time.{time-passed-sound}
 use Rattle.script.specs.Record.{Record, frame, wait, Fits, AllFit, outputLength}
 use Rattle.script.proofs.Laws.Records.{all-fit-right, output-none, output-frame, output-wait}
-use Rattle.frame.specs.Call.{frameNumber, frameAnswer, frameArray}
-use Rattle.frame.proofs.Laws.Accepted.{accepted-number}
-use Rattle.frame.proofs.Laws.Array.{frame-array-length}
-use Rattle.frame.proofs.Laws.Call.{frame-output-length}
-use Rattle.frame.proofs.Laws.Sound.{frame-sound}
-use Rattle.frame.proofs.Laws.Chip.{frame-chip}
-use Rattle.run.specs.Run.{Device, device, step, outputOf, run, outputs}
+use Rattle.frame.specs.Device.{Device, withState}
+use Rattle.frame.specs.Ran.{ranDevice}
+use Rattle.frame.specs.Call.{Accepted, FrameRun}
+use Rattle.frame.proofs.Laws.Call.{frame-accepted}
+use Rattle.frame.proofs.Laws.Ran.{ran-sound, ran-chip, ran-length, shown-length}
+use Rattle.run.specs.Run.{step, outputOf, run, outputs}
 
 -- ---- one after another
 
@@ -59,7 +59,7 @@ module _ (wp : Bool) where
   -- a frame's output is as long as the frame
   pub output-length : (f : List ℕ) (d : Device) → length (outputOf wp (frame f) d) ≡ length f
   unfolding outputOf
-  output-length f d = frame-output-length (d .state) wp (d .array) f f refl
+  output-length f d = shown-length wp f d
 
   pub outputs-length : (rs : List Record) (d : Device) → length (outputs wp rs d) ≡ outputLength rs
   outputs-length [] d = ap length (outputs-none d) ∙ sym output-none
@@ -76,11 +76,22 @@ module _ (wp : Bool) where
   outputs-length (wait n ∷ rs) d =
       ap length (outputs-wait n rs d) ∙ outputs-length rs (step wp (wait n) d) ∙ sym (output-wait n rs)
 
+-- ---- each record by its own call
+
+module _ (wp : Bool) (d : Device) where
+  -- a frame that its call accepts
+  pub step-by-frame : (f output : List ℕ) → Accepted wp f d output → FrameRun wp f d output 0 (step wp (frame f) d) (outputOf wp (frame f) d)
+  unfolding step outputOf
+  step-by-frame f output a = frame-accepted wp f d output a record { device-is = refl; output-is = refl }
+
+  pub step-by-wait : (n : ℕ) → Sound (d .state) → passTime (d .state) n ≡ granted (step wp (wait n) d .state)
+  unfolding step
+  step-by-wait n h = pass-time-granted (d .state) n h
+
 -- ---- what each frame and each wait keeps, every run keeps
 
-module _ (P : Device → Type 0) (wp : Bool)
-    (framed : (f : List ℕ) (d : Device) → P d → P (device (frameAnswer (d .state) wp (d .array) f f .state) (frameArray (d .state) wp (d .array) f f)))
-    (waited : (n : ℕ) (d : Device) → P d → P (device (passTime (d .state) n .state) (d .array))) where
+module _ (P : Device → Type 0) (wp : Bool) (framed : (f : List ℕ) (d : Device) → P d → P (ranDevice wp f d))
+    (waited : (n : ℕ) (d : Device) → P d → P (withState d (timePassed (d .state) n))) where
   pub run-keeps : (rs : List Record) (d : Device) → P d → P (run wp rs d)
   unfolding run step
   run-keeps [] d p = p
@@ -89,20 +100,16 @@ module _ (P : Device → Type 0) (wp : Bool)
 
 module _ (wp : Bool) (rs : List Record) (d : Device) where
   -- "Every call returns a sound state from a sound one."
-  pub run-sound : isSound (d .state) ≡ true → isSound (run wp rs d .state) ≡ true
-  run-sound =
-      run-keeps (λ (e : Device). isSound (e .state) ≡ true) wp (λ f e. frame-sound (e .state) wp (e .array) f f)
-      (λ n e. pass-time-sound (e .state) n) rs d
+  pub run-sound : Sound (d .state) → Sound (run wp rs d .state)
+  run-sound = run-keeps (λ (e : Device). Sound (e .state)) wp (λ f e. ran-sound wp f e) (λ n e. time-passed-sound (e .state) n) rs d
 
   pub run-chip : run wp rs d .state .chip ≡ d .state .chip
   run-chip =
-      run-keeps (λ (e : Device). e .state .chip ≡ d .state .chip) wp (λ f e h. frame-chip (e .state) wp (e .array) f f ∙ h)
-      (λ n e h. pass-time-chip (e .state) n ∙ h) rs d refl
+      run-keeps (λ (e : Device). e .state .chip ≡ d .state .chip) wp (λ f e h. ran-chip wp f e ∙ h) (λ n e h. time-passed-chip (e .state) n ∙ h) rs d refl
 
   pub run-array-length : length (run wp rs d .array) ≡ length (d .array)
   run-array-length =
-      run-keeps (λ (e : Device). length (e .array) ≡ length (d .array)) wp (λ f e h. frame-array-length (e .state) wp (e .array) f f ∙ h)
-      (λ n e h. h) rs d refl
+      run-keeps (λ (e : Device). length (e .array) ≡ length (d .array)) wp (λ f e h. ran-length wp f e ∙ h) (λ n e h. h) rs d refl
 
 -- ---- a chip that accepts every frame that fits
 
@@ -113,16 +120,16 @@ pub record Ready (d : Device) : Type 0 where
 
 pub run-ready : (wp : Bool) (rs : List Record) (d : Device) → Ready d → Ready (run wp rs d)
 run-ready wp rs d h = record {
-  sound = sound-of _ (run-sound wp rs d (of-sound (d .state) (h .sound)));
+  sound = run-sound wp rs d (h .sound);
   sized = rw (run-chip wp rs d) (run-array-length wp rs d ∙ h .sized);
 }
 
-pub frame-accepted-ready : (f : List ℕ) (d : Device) → Fits (frame f) → Ready d → frameNumber (d .state) (length (d .array)) (length f) (length f) ≡ 0
-frame-accepted-ready f d k h =
-    accepted-number (d .state) (length (d .array)) (length f) (length f)
-    record { sound = h .sound; sized = h .sized; some = k .0; short = k .1; same = refl }
+-- with an output as long as the frame
+pub frame-accepted-ready : (wp : Bool) (f : List ℕ) (d : Device) (output : List ℕ) → Fits (frame f) → Ready d → length output ≡ length f → Accepted wp f d output
+frame-accepted-ready wp f d output k h same = record { sound = h .sound; sized = h .sized; some = k .0; short = k .1; same = same }
 
 -- wherever it stands among records that fit
 pub frame-accepted-among : (wp : Bool) (rs ss : List Record) (f : List ℕ) (d : Device) → AllFit (rs ++ (frame f ∷ ss)) → Ready d
-    → let e = run wp rs d in frameNumber (e .state) (length (e .array)) (length f) (length f) ≡ 0
-frame-accepted-among wp rs ss f d k h = frame-accepted-ready f (run wp rs d) (all-fit-right rs (frame f ∷ ss) k .0) (run-ready wp rs d h)
+    → (output : List ℕ) → length output ≡ length f → Accepted wp f (run wp rs d) output
+frame-accepted-among wp rs ss f d k h output same =
+    frame-accepted-ready wp f (run wp rs d) output (all-fit-right rs (frame f ∷ ss) k .0) (run-ready wp rs d h) same

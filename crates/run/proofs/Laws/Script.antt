@@ -3,69 +3,98 @@
 use mathlib.Core.Path.{_≡_, refl, sym, ap, _∙_}
 use mathlib.Core.Bool.{Bool, true}
 use mathlib.Core.List.{List, _∷_, _++_}
-use Prim.Native.Nat.{ℕ}
+use Prim.Native.Nat.{ℕ, _<_}
+use native.Mathlib.Omega.{arith}
 use lib.Dec.{eqb}
 use lib.ListN.{length}
-use borrow.Author.Tests.{eqb-true, eq-eqb, ne-eqb}
+use borrow.Author.Tests.{eq-eqb, ne-eqb}
 use Rattle.common.specs.Bits.{Bytes}
 use Rattle.common.proofs.Laws.Choice.{cond-elim, yes, no}
 use Rattle.state.specs.declared.State.{State}
 use Rattle.state.specs.Soundness.{isSound}
-use Rattle.script.specs.Record.{Record, frame}
-use Rattle.script.proofs.Laws.Decode.{encode-decode}
-use Rattle.frame.specs.Call.{frameNumber}
-use Rattle.run.specs.declared.Ran.{Ran}
-use Rattle.run.specs.Run.{Device, device, run, outputs}
-use Rattle.run.specs.Script.{scriptNumber, ranRecords, refusedRun, scriptAnswer, scriptArray, scriptOutput, ScriptRun, RecordsRun}
+use Rattle.state.proofs.Laws.Soundness.{sound-of, of-sound}
+use Rattle.script.specs.Record.{Record, frame, framesIn, microsecondsIn}
 use Rattle.script.specs.Decode.{recordsIn, recordsOf}
-use Rattle.run.proofs.Laws.Accepted.{Accepted}
+use Rattle.script.proofs.Laws.Decode.{encode-decode}
+use Rattle.frame.specs.Device.{Device}
+use Rattle.frame.specs.Call.{Accepted}
+use Rattle.run.specs.declared.Ran.{Ran}
+use Rattle.run.specs.Run.{run, outputs}
+use Rattle.run.specs.Script.{scriptNumber, ScriptAccepted, ScriptDone, scriptDevice, scriptOutput, scriptCount, ScriptRun}
+use Rattle.run.proofs.Laws.Accepted.{accepted-number}
 use Rattle.run.proofs.Laws.Run.{run-sound, frame-accepted-among}
 
-module _ (s : State) (wp : Bool) (array script output : List ℕ) where
+-- an answer, by the refusal's number or 0, the chip's state and the counts
+abbrev pub ranBy : ℕ → State → ℕ → ℕ → Ran
+ranBy number s frames microseconds = record { number = number; state = s; frames = frames; microseconds = microseconds }
+
+module _ (wp : Bool) (script : List ℕ) (d : Device) (output : List ℕ) where
   abbrev number : ℕ
-  number = scriptNumber s (length array) script (length output)
+  number = scriptNumber wp script d output
 
   -- "A refusal changes no buffer and returns the given state, length and counts 0"
-  pub script-refused : (number ≡ 0 → ⊥) → ScriptRun s wp array script output (refusedRun number s) array output
-  unfolding scriptAnswer scriptArray scriptOutput
-  script-refused h = let t = ne-eqb number 0 h in record { answers = no _ t refl; array-is = no _ t refl; output-is = no _ t refl }
-
-  pub script-accepted : {after : State} {arrayAfter outputAfter : List ℕ} → number ≡ 0 → RecordsRun s wp array script after arrayAfter outputAfter
-      → ScriptRun s wp array script output (ranRecords after (recordsOf script)) arrayAfter outputAfter
-  unfolding scriptAnswer scriptArray scriptOutput
-  script-accepted {after} {arrayAfter} {outputAfter} e r =
-      let t = eq-eqb number 0 e in
+  pub script-refused : (number ≡ 0 → ⊥) → ScriptRun wp script d output (ranBy number (d .state) 0 0) d output
+  unfolding scriptDevice scriptOutput scriptCount
+  script-refused h =
+      let t = ne-eqb number 0 h in
+      let same : d ≡ scriptDevice wp script d output = no _ t refl in
       record {
-        answers = yes _ t (ap (λ (d : Device). ranRecords (d .state) (recordsOf script)) (r .device-is));
-        array-is = yes _ t (ap (λ (d : Device). d .array) (r .device-is));
-        output-is = yes _ t (r .output-is);
+        number-is = refl;
+        state-is = ap (λ (e : Device). e .state) same;
+        frames-are = no _ t refl;
+        microseconds-are = no _ t refl;
+        device-is = same;
+        output-is = no _ t refl;
       }
 
-  pub script-ran : number ≡ 0
-      → let d = run wp (recordsOf script) (device s array) in
-      ScriptRun s wp array script output (ranRecords (d .state) (recordsOf script)) (d .array) (outputs wp (recordsOf script) (device s array))
-  script-ran e = script-accepted e record { device-is = refl; output-is = refl }
+  pub script-refusal-keeps : {ran : Ran} {after : Device} {out : List ℕ} → ScriptRun wp script d output ran after out → 0 < ran .number
+      → (after ≡ d) × (out ≡ output)
+  script-refusal-keeps p some =
+      let r = script-refused (λ z. omega (arith, p .number-is, z, some)) in (p .device-is ∙ sym (r .device-is), p .output-is ∙ sym (r .output-is))
 
-  pub script-answer-number : scriptAnswer s wp array script output .number ≡ number
-  unfolding scriptAnswer
-  script-answer-number = cond-elim (λ (r : Ran). r .number ≡ number) (eqb number 0) (λ t. sym (eqb-true number 0 t)) (λ _. refl)
+  pub script-accepted : {after : Device} {outputAfter : List ℕ} → ScriptAccepted wp script d output → ScriptDone wp script d after outputAfter
+      → ScriptRun wp script d output (ranBy 0 (after .state) (framesIn (recordsOf script)) (microsecondsIn (recordsOf script))) after outputAfter
+  unfolding scriptDevice scriptOutput scriptCount
+  script-accepted {after} a done =
+      let e = accepted-number wp script d output a in
+      let t = eq-eqb number 0 e in
+      let ran : after ≡ scriptDevice wp script d output = yes _ t (done .device-is) in
+      record {
+        number-is = sym e;
+        state-is = ap (λ (x : Device). x .state) ran;
+        frames-are = yes _ t refl;
+        microseconds-are = yes _ t refl;
+        device-is = ran;
+        output-is = yes _ t (done .output-is);
+      }
+
+  pub script-ran : ScriptAccepted wp script d output
+      → let e = run wp (recordsOf script) d in
+      ScriptRun wp script d output (ranBy 0 (e .state) (framesIn (recordsOf script)) (microsecondsIn (recordsOf script))) e (outputs wp (recordsOf script) d)
+  script-ran a = script-accepted a record { device-is = refl; output-is = refl }
 
   -- inside an accepted script no frame is refused
-  pub no-frame-refused : Bytes script → Accepted s (length array) script (length output) → (rs ss : List Record) (f : List ℕ)
-      → recordsOf script ≡ rs ++ (frame f ∷ ss)
-      → let d = run wp rs (device s array) in frameNumber (d .state) (length (d .array)) (length f) (length f) ≡ 0
+  pub no-frame-refused : Bytes script → ScriptAccepted wp script d output → (rs ss : List Record) (f : List ℕ) → recordsOf script ≡ rs ++ (frame f ∷ ss)
+      → (part : List ℕ) → length part ≡ length f → Accepted wp f (run wp rs d) part
   no-frame-refused bytes a rs ss f e =
       let list : a .list ≡ rs ++ (frame f ∷ ss) = sym (ap recordsIn (a .decoded)) ∙ e in
-      frame-accepted-among wp rs ss f (device s array) (rw list at (encode-decode script (a .list) bytes (a .decoded) .1))
-      record { sound = a .sound; sized = a .sized }
+      frame-accepted-among wp rs ss f d (rw list at (encode-decode script (a .list) bytes (a .decoded) .1)) record { sound = a .sound; sized = a .sized }
 
   -- "Every call returns a sound state from a sound one."
-  pub script-sound : isSound s ≡ true → isSound (scriptAnswer s wp array script output .state) ≡ true
-  unfolding scriptAnswer
+  pub script-sound : isSound (d .state) ≡ true → isSound (scriptDevice wp script d output .state) ≡ true
+  unfolding scriptDevice
   script-sound h =
-      cond-elim (λ (r : Ran). isSound (r .state) ≡ true) (eqb number 0) (λ _. run-sound wp (recordsOf script) (device s array) h) (λ _. h)
+      cond-elim (λ (e : Device). isSound (e .state) ≡ true) (eqb number 0) (λ _. of-sound _ (run-sound wp (recordsOf script) d (sound-of (d .state) h))) (λ _. h)
 
-  module _ (ran ran′ : Ran) (after after′ out out′ : List ℕ) where
-    pub run-script-determined : ScriptRun s wp array script output ran after out → ScriptRun s wp array script output ran′ after′ out′
+  module _ (ran ran′ : Ran) (after after′ : Device) (out out′ : List ℕ) where
+    pub run-script-determined : ScriptRun wp script d output ran after out → ScriptRun wp script d output ran′ after′ out′
         → (ran ≡ ran′) × ((after ≡ after′) × (out ≡ out′))
-    run-script-determined p q = (p .answers ∙ sym (q .answers), (p .array-is ∙ sym (q .array-is), p .output-is ∙ sym (q .output-is)))
+    run-script-determined p q = (
+      λ i. record {
+        number = (p .number-is ∙ sym (q .number-is)) i;
+        state = (p .state-is ∙ sym (q .state-is)) i;
+        frames = (p .frames-are ∙ sym (q .frames-are)) i;
+        microseconds = (p .microseconds-are ∙ sym (q .microseconds-are)) i;
+      },
+      (p .device-is ∙ sym (q .device-is), p .output-is ∙ sym (q .output-is)),
+    )

@@ -1,6 +1,6 @@
 -- Where the walk over a script's records stands: those before an offset are run, and running those that are left makes up the whole.
 -- Assumes nothing.
-use mathlib.Core.Path.{_≡_, refl, sym, ap, ap₂, _∙_}
+use mathlib.Core.Path.{_≡_, refl, sym, ap, _∙_}
 use mathlib.Core.Bool.{Bool}
 use mathlib.Core.List.{List, [], _∷_, _++_, append-assoc, append-nil}
 use Prim.Native.Nat.{ℕ, _+_, _-_, _≤_}
@@ -10,18 +10,19 @@ use lib.Seq.{take-all, take-at, length-take-le}
 use borrow.Rule.Slice.PartMut.{midOf, postOf, putMid, same-len-mid, mid-len}
 use Rattle.common.specs.Bits.{Bytes}
 use Rattle.state.specs.declared.State.{State}
-use Rattle.state.specs.declared.Answer.{Answer}
-use Rattle.state.specs.Time.{passTime}
+use Rattle.state.specs.Time.{timePassed}
 use Rattle.script.specs.Record.{Record, frame, wait, AllFit, outputLength}
 use Rattle.common.specs.Limits.{longestScript}
 use Rattle.script.specs.Decode.{records, decode, recordsOf}
 use Rattle.script.proofs.Laws.Records.{output-append, output-none, output-frame, output-wait}
 use Rattle.script.proofs.Laws.Decode.{encode-decode}
 use Rattle.script.proofs.Laws.Answers.{Stands, First, stands-first, FrameTold, EndTold}
-use Rattle.frame.specs.Call.{FrameRun}
-use Rattle.frame.proofs.Laws.Call.{frame-buffer-free, frame-output-length}
-use Rattle.run.specs.Run.{Device, device, step, outputOf, run, outputs}
-use Rattle.run.proofs.Laws.Accepted.{Accepted}
+use Rattle.frame.specs.Device.{Device, withState}
+use Rattle.frame.specs.Ran.{FrameDone}
+use Rattle.frame.specs.Call.{Accepted}
+use Rattle.frame.proofs.Laws.Ran.{shown-length}
+use Rattle.run.specs.Run.{step, outputOf, run, outputs}
+use Rattle.run.specs.Script.{ScriptAccepted}
 use Rattle.run.proofs.Laws.Run.{Ready, run-array-length, run-ready, frame-accepted-ready}
 
 -- from the device that it began with, with room for so many bytes of output, of which the first `laid` are laid
@@ -39,9 +40,9 @@ pub record Walked (wp : Bool) (script : List ℕ) (begun : Device) (room : ℕ) 
   pub device-is : run wp left now ≡ run wp (recordsOf script) begun
   pub output-is : take laid output ++ outputs wp left now ≡ outputs wp (recordsOf script) begun
 
-pub walk-start : (wp : Bool) (s : State) (array script output : List ℕ) → Bytes script → Accepted s (length array) script (length output)
-    → Walked wp script (device s array) (length output) (device s array) 0 0 output
-walk-start wp s array script output bytes a = record {
+pub walk-start : (wp : Bool) (script : List ℕ) (d : Device) (output : List ℕ) → Bytes script → ScriptAccepted wp script d output
+    → Walked wp script d (length output) d 0 0 output
+walk-start wp script d output bytes a = record {
   short = a .short;
   inside = omega arith;
   ready = record { sound = a .sound; sized = a .sized };
@@ -91,11 +92,11 @@ module _ {wp : Bool} {script : List ℕ} {begun : Device} {room at laid : ℕ} {
         output-is = rw (is, laid-is, append-assoc) o;
       }
 
-  pub walk-wait : {n next : ℕ} {answer : Answer} → Stands script at (wait n) next → answer ≡ passTime (now .state) n
-      → Walked wp script begun room (device (answer .state) (now .array)) next laid output
+  pub walk-wait : {n next : ℕ} {after : State} → Stands script at (wait n) next → after ≡ timePassed (now .state) n
+      → Walked wp script begun room (withState now after) next laid output
   unfolding step outputOf
-  walk-wait {n} {next} {answer} t e =
-      walk-on t (ap (λ (a : Answer). device (a .state) (now .array)) e) (omega (arith, output-wait n [], output-none)) refl (sym (append-nil (take laid output)))
+  walk-wait {n} {next} {after} t e =
+      walk-on t (ap (withState now) e) (omega (arith, output-wait n [], output-none)) refl (sym (append-nil (take laid output)))
 
   -- there is room for the output of a frame that stands there
   pub frame-room : {start n next : ℕ} → FrameTold script at start n next → laid + n ≤ length output
@@ -103,22 +104,30 @@ module _ {wp : Bool} {script : List ℕ} {begun : Device} {room at laid : ℕ} {
       let f = first (t .stands) in
       omega (arith, w .fills, w .long, t .long, ap outputLength (f .is), output-frame (take n (drop start script)) (f .others))
 
-  pub walk-frame : {start n next : ℕ} {f : List ℕ} {answer : Answer} {arrayAfter part : List ℕ} → FrameTold script at start n next
-      → f ≡ take n (drop start script)
-      → FrameRun (now .state) wp (now .array) f (midOf laid (laid + n - laid) output) answer arrayAfter part
-      → Walked wp script begun room (device (answer .state) arrayAfter) next (laid + n) (putMid laid (laid + n - laid) output part)
-  unfolding step outputOf
-  walk-frame {start} {n} {next} {f} {answer} {arrayAfter} {part} t e r =
+  -- the part of the output that is lent to it
+  abbrev Part : ℕ → List ℕ
+  Part n = midOf laid (laid + n - laid) output
+
+  part-length : {start n next : ℕ} → FrameTold script at start n next → length (Part n) ≡ n
+  part-length {start} {n} {next} t = mid-len laid (laid + n) output (frame-room t) ∙ omega arith
+
+  -- and the frame is accepted
+  pub walk-accepted : {start n next : ℕ} {f : List ℕ} → FrameTold script at start n next → f ≡ take n (drop start script) → Accepted wp f now (Part n)
+  walk-accepted {start} {n} {next} {f} t e =
       let stands : Stands script at (frame f) next = rw e (t .stands) in
       let fit : AllFit (frame f ∷ first stands .others) = rw (first stands .is) at (w .fit) in
+      frame-accepted-ready wp f now (Part n) (fit .0) (w .ready) (part-length t ∙ sym (ap length e ∙ t .long))
+
+  pub walk-frame : {start n next : ℕ} {f : List ℕ} {after : Device} {part : List ℕ} → FrameTold script at start n next → f ≡ take n (drop start script)
+      → FrameDone wp f now after part → Walked wp script begun room after next (laid + n) (putMid laid (laid + n - laid) output part)
+  unfolding step outputOf
+  walk-frame {start} {n} {next} {f} {after} {part} t e done =
       let count : length f ≡ n = ap length e ∙ t .long in
-      let inside : laid + n ≤ length output = frame-room t in
-      let lent : length (midOf laid (laid + n - laid) output) ≡ n = mid-len laid (laid + n) output inside ∙ omega arith in
-      let ran = frame-buffer-free (lent ∙ sym count) (frame-accepted-ready f now (fit .0) (w .ready)) r in
-      let long : length part ≡ n = ap length (ran .output-is) ∙ frame-output-length (now .state) wp (now .array) f f refl ∙ count in
-      walk-on stands (ap₂ (λ (a : Answer) (l : List ℕ). device (a .state) l) (ran .answers) (ran .array-is)) (omega (arith, count, output-frame f [], output-none))
-      (same-len-mid laid (laid + n - laid) output part (long ∙ sym lent))
-      (part-laid laid n output part inside long ∙ ap (λ (l : List ℕ). take laid output ++ l) (ran .output-is))
+      let long : length part ≡ n = ap length (done .output-is) ∙ shown-length wp f now ∙ count in
+      let stands : Stands script at (frame f) next = rw e (t .stands) in
+      walk-on stands (done .device-is) (omega (arith, count, output-frame f [], output-none))
+      (same-len-mid laid (laid + n - laid) output part (long ∙ sym (part-length t)))
+      (part-laid laid n output part (frame-room t) long ∙ ap (λ (l : List ℕ). take laid output ++ l) (done .output-is))
 
   -- the end: nothing is left
   pub walk-end : EndTold script at → (now ≡ run wp (recordsOf script) begun) × (output ≡ outputs wp (recordsOf script) begun)

@@ -7,7 +7,8 @@ use Prim.Native.Nat.{ℕ, _<_}
 use native.Mathlib.Omega.{arith}
 use lib.Dec.{leb, ltb, eqb}
 use lib.ListN.{length, getD}
-use borrow.Author.Tests.{eqb-true, ltb-true}
+use borrow.Author.Tests.{eqb-true, ltb-true, leb-true}
+use Rattle.common.specs.Limits.{longestFrame}
 use Rattle.common.specs.Lists.{tab, within, Each}
 use Rattle.common.proofs.Laws.Booleans.{and-l, and-r}
 use Rattle.common.proofs.Laws.Lists.{length-mapi, getD-mapi, tab-cong}
@@ -16,6 +17,7 @@ use Rattle.state.specs.declared.State.{State}
 use Rattle.state.specs.declared.Answer.{Answer}
 use Rattle.chip.specs.Chip.{chipOf, isKnown, kindOf}
 use Rattle.state.specs.State.{dataOf}
+use Rattle.state.specs.Answer.{granted}
 use Rattle.state.specs.Status.{statusOf}
 use Rattle.state.specs.Protection.{firstProtected}
 use Rattle.state.specs.Soundness.{isSound}
@@ -27,9 +29,11 @@ use Rattle.command.specs.Command.{address, writable, byKind, inAai, commandOf}
 use Rattle.registers.specs.Registers.{stateAfter}
 use Rattle.output.specs.Output.{memory, shownAt}
 use Rattle.effect.specs.Effect.{pageEffect, touches, struck, changed}
-use Rattle.frame.specs.Call.{frameNumber, effectAt, stateAt, frameAnswer, frameArray, frameOutput}
-use Rattle.frame.proofs.Laws.Accepted.{number-accepted}
+use Rattle.frame.specs.Device.{Device, device, withState}
+use Rattle.frame.specs.Ran.{effectAt, stateAt, ranDevice, shown}
+use Rattle.frame.specs.Call.{Accepted}
 use Rattle.frame.proofs.Laws.Call.{frame-accepted}
+use Rattle.frame.proofs.Laws.Ran.{ran-is, shown-is}
 use Rattle.samples.specs.Session.{Step, send, pass, byteIs, protects, plans, Runs, Session, Holds}
 use Rattle.samples.specs.Table.{frameSessions, planSession, sessions}
 use Rattle.samples.proofs.Laws.Plan.{plan-holds}
@@ -62,12 +66,15 @@ bool-same-is false false e = refl
 abbrev after : State → List ℕ → (ℕ → ℕ) → ℕ → ℕ
 after s f m k = changed (effectAt s true f) f k (m k)
 
+-- the frame's call accepts it, on a chip of this size and with an output of its length
+accepts : ℕ → State → List ℕ → Bool
+accepts size s f = isSound s && (eqb size (dataOf s .size) && (ltb 0 (length f) && leb (length f) longestFrame))
+
 -- the steps, run over a memory function
 test : ℕ → State → (ℕ → ℕ) → List Step → Bool
 test size s m [] = true
 test size s m (send f output ∷ steps) =
-    eqb (frameNumber s size (length f) (length f)) 0
-    && (same (tab (length f) (shownAt s (commandOf s true f) m)) output && test size (stateAt s true f) (after s f m) steps)
+    accepts size s f && (same (tab (length f) (shownAt s (commandOf s true f) m)) output && test size (stateAt s true f) (after s f m) steps)
 test size s m (pass n ∷ steps) = isSound s && test size (timePassed s n) m steps
 test size s m (byteIs address byte ∷ steps) = ltb address size && (eqb (m address) byte && test size s m steps)
 test size s m (plans start wanted room script frames microseconds ∷ steps) = false
@@ -77,26 +84,34 @@ Agree : ℕ → List ℕ → (ℕ → ℕ) → Type 0
 Agree size array m = (length array ≡ size) × ((k : ℕ) → k < size → getD array k 0 ≡ m k)
 
 -- a frame, seen through the memory
-module _ (size : ℕ) (s : State) (f : List ℕ) (m : ℕ → ℕ) (array : List ℕ) (q : frameNumber s size (length f) (length f) ≡ 0) where
-  number-0 : Agree size array m → frameNumber s (length array) (length f) (length f) ≡ 0
-  unfolding Agree
-  number-0 a = rw (a .0) q
+module _ (size : ℕ) (s : State) (f : List ℕ) (m : ℕ → ℕ) (array : List ℕ) (q : accepts size s f ≡ true) where
+  abbrev d : Device
+  d = device s array
 
-  answer-is : Agree size array m → frameAnswer s true array f f ≡ record { number = 0; state = stateAt s true f }
-  answer-is a = sym (frame-accepted s true array f f (number-0 a) .answers)
+  took : Agree size array m → (buffer : List ℕ) → length buffer ≡ length f → Accepted true f d buffer
+  unfolding Agree accepts
+  took a buffer long =
+      let r = and-r (isSound s) _ q in
+      let t = and-r (eqb size (dataOf s .size)) _ r in
+      record {
+        sound = sound-of s (and-l (isSound s) _ q);
+        sized = a .0 ∙ eqb-true size (dataOf s .size) (and-l (eqb size (dataOf s .size)) _ r);
+        some = ltb-true 0 (length f) (and-l (ltb 0 (length f)) _ t);
+        short = leb-true (length f) longestFrame (and-r (ltb 0 (length f)) _ t);
+        same = long;
+      }
 
-  shows : Agree size array m → frameOutput s true array f f ≡ tab (length f) (shownAt s (commandOf s true f) m)
+  shows : Agree size array m → shown true f d ≡ tab (length f) (shownAt s (commandOf s true f) m)
   unfolding Agree
   shows a =
-      sym (frame-accepted s true array f f (number-0 a) .output-is)
+      shown-is true f d
       ∙ tab-cong (length f) (shownAt s (commandOf s true f) (memory array)) (shownAt s (commandOf s true f) m)
-      (shown-by-memory s (commandOf s true f) (memory array) m
-      (λ k h. a .1 k (omega (arith, number-accepted s size (length f) (length f) q .sized))))
+      (shown-by-memory s (commandOf s true f) (memory array) m (λ k h. a .1 k (omega (arith, a .0, took a f refl .sized))))
 
-  leaves : Agree size array m → Agree size (frameArray s true array f f) (after s f m)
+  leaves : Agree size array m → Agree size (ranDevice true f d .array) (after s f m)
   unfolding Agree
   leaves a =
-      let e = sym (frame-accepted s true array f f (number-0 a) .array-is) in
+      let e = ap (λ (x : Device). x .array) (ran-is true f d) in
       let F = changed (effectAt s true f) f in (
         ap length e ∙ length-mapi F array ∙ a .0,
         λ k h. ap (λ (l : List ℕ). getD l k 0) e ∙ getD-mapi F array k 0 (omega (arith, a .0)) ∙ ap (F k) (a .1 k h),
@@ -106,26 +121,30 @@ byte-there : (size : ℕ) (array : List ℕ) (m : ℕ → ℕ) (address byte : �
 unfolding Agree
 byte-there size array m address byte a h b = a .1 address h ∙ b
 
-runs : (size : ℕ) (steps : List Step) (s : State) (m : ℕ → ℕ) (array : List ℕ) → test size s m steps ≡ true → Agree size array m → Runs s array steps
+runs : (size : ℕ) (steps : List Step) (d : Device) (m : ℕ → ℕ) → test size (d .state) m steps ≡ true → Agree size (d .array) m → Runs d steps
 unfolding test
-runs size [] s m array e a = tt
-runs size (send f output ∷ steps) s m array e a =
-    let n = eqb-true (frameNumber s size (length f) (length f)) 0 (and-l (eqb (frameNumber s size (length f) (length f)) 0) _ e) in
-    let r = and-r (eqb (frameNumber s size (length f) (length f)) 0) _ e in
+runs size [] d m e a = tt
+runs size (send f output ∷ steps) d m e a =
+    let s = d .state in
+    let q = and-l (accepts size s f) _ e in
+    let r = and-r (accepts size s f) _ e in
     let t = same (tab (length f) (shownAt s (commandOf s true f) m)) output in
-    let u = answer-is size s f m array n a in (
-      (ap (λ (x : Answer). x .number) u, shows size s f m array n a ∙ same-is _ output (and-l t _ r)),
-      rw u (runs size steps (stateAt s true f) (after s f m) (frameArray s true array f f) (and-r t _ r) (leaves size s f m array n a)),
+    let out : output ≡ shown true f d = sym (shows size s f m (d .array) q a ∙ same-is _ output (and-l t _ r)) in
+    let next : test size (ranDevice true f d .state) (after s f m) steps ≡ true = rw (ran-is true f d) (and-r t _ r) in (
+      λ buffer long. frame-accepted true f d buffer (took size s f m (d .array) q a buffer long) record { device-is = refl; output-is = out },
+      runs size steps (ranDevice true f d) (after s f m) next (leaves size s f m (d .array) q a),
     )
-runs size (pass n ∷ steps) s m array e a =
-    let z : passTime s n ≡ record { number = 0; state = timePassed s n } = pass-time-granted s n (sound-of s (and-l (isSound s) _ e)) in
-    (ap (λ (x : Answer). x .number) z, rw z (runs size steps (timePassed s n) m array (and-r (isSound s) _ e) a))
-runs size (byteIs address byte ∷ steps) s m array e a =
+runs size (pass n ∷ steps) d m e a =
+    let s = d .state in
+    let z : passTime s n ≡ granted (timePassed s n) = pass-time-granted s n (sound-of s (and-l (isSound s) _ e)) in
+    (ap (λ (x : Answer). x .number) z, rw z (runs size steps (withState d (timePassed s n)) m (and-r (isSound s) _ e) a))
+runs size (byteIs address byte ∷ steps) d m e a =
     let r = and-r (ltb address size) _ e in
-    (byte-there size array m address byte a (ltb-true address size (and-l (ltb address size) _ e)) (eqb-true (m address) byte (and-l (eqb (m address) byte) _ r)), runs size steps s m array (and-r (eqb (m address) byte) _ r) a)
-runs size (plans start wanted room script frames microseconds ∷ steps) s m array e a = absurd (mathlib.Core.Bool.false≢true e)
-runs size (protects address answer ∷ steps) s m array e a =
-    (bool-same-is (leb (firstProtected s) address) answer (and-l (bool-same (leb (firstProtected s) address) answer) _ e), runs size steps s m array (and-r (bool-same (leb (firstProtected s) address) answer) _ e) a)
+    (byte-there size (d .array) m address byte a (ltb-true address size (and-l (ltb address size) _ e)) (eqb-true (m address) byte (and-l (eqb (m address) byte) _ r)), runs size steps d m (and-r (eqb (m address) byte) _ r) a)
+runs size (plans start wanted room script frames microseconds ∷ steps) d m e a = absurd (mathlib.Core.Bool.false≢true e)
+runs size (protects address answer ∷ steps) d m e a =
+    let t = bool-same (leb (firstProtected (d .state)) address) answer in
+    (bool-same-is (leb (firstProtected (d .state)) address) answer (and-l t _ e), runs size steps d m (and-r t _ e) a)
 
 abbrev passes : List Session → Bool
 passes [] = true
@@ -136,10 +155,10 @@ unfolding Agree
 all-hold [] e = tt
 all-hold (x ∷ xs) e =
     let t = test (dataOf (x .state) .size) (x .state) (λ _. x .fill) (x .steps) in
-    (λ array n h. runs (dataOf (x .state) .size) (x .steps) (x .state) (λ _. x .fill) array (and-l t (passes xs) e) (n, λ k b. h k (omega (arith, n))), all-hold xs (and-r t (passes xs) e))
+    (λ array n h. runs (dataOf (x .state) .size) (x .steps) (device (x .state) array) (λ _. x .fill) (and-l t (passes xs) e) (n, λ k b. h k (omega (arith, n))), all-hold xs (and-r t (passes xs) e))
 
 computed : passes frameSessions ≡ true
-unfolding test same bool-same isSound chipOf isKnown statusOf firstProtected newState newChip cycleEnded timePassed kindOf address writable byKind inAai commandOf stateAfter shownAt pageEffect touches struck changed frameNumber within
+unfolding test accepts same bool-same isSound chipOf isKnown statusOf firstProtected newState newChip cycleEnded timePassed kindOf address writable byKind inAai commandOf stateAfter shownAt pageEffect touches struck changed within
 computed = refl
 
 pub samples-hold : Each Holds sessions

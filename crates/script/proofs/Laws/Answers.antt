@@ -7,7 +7,6 @@ use native.Mathlib.Omega.{arith}
 use lib.Dec.{ltb}
 use lib.ListN.{length, take, drop, length-drop}
 use lib.Seq.{drop-drop}
-use borrow.Author.Tests.{ltb-true, ltb-false}
 use Rattle.common.proofs.Laws.Choice.{cond-elim}
 use Rattle.script.specs.Record.{Record, frame, wait, recordLength}
 use Rattle.common.specs.Limits.{longestScript}
@@ -15,7 +14,7 @@ use Rattle.script.specs.Decode.{Fault, faultNumber, Front, end, item, ma
 use Rattle.script.specs.Reader.{numberOf, nextOf, partOf, answer, recordAt, framePart}
 use Rattle.script.specs.declared.reader.Found.{Found}
 use Rattle.script.specs.declared.reader.Found.the-variants.{Frame, Wait, End, Refused}
-use Rattle.script.proofs.Laws.Front.{front-seen, front-item}
+use Rattle.script.proofs.Laws.Front.{front-item}
 use Rattle.script.proofs.Laws.Decode.{decode-end, decode-item, decode-malformed}
 use Rattle.script.proofs.Laws.Reader.{record-at-inside}
 
@@ -68,7 +67,6 @@ pub record FrameTold (script : List ℕ) (offset start n next : ℕ) : Type 0 wh
   pub stands : Stands script offset (frame (take n (drop start script))) next
 
 pub record EndTold (script : List ℕ) (offset : ℕ) : Type 0 where
-  pub at-end : offset ≡ length script
   pub decoded : decode (drop offset script) ≡ records []
 
 pub record RefusalTold (script : List ℕ) (offset number : ℕ) : Type 0 where
@@ -85,32 +83,30 @@ abbrev pub Told : List ℕ → ℕ → Found → Type 0
 Told script offset (Frame start n next) = FrameTold script offset start n next
 Told script offset (Wait microseconds next) = Stands script offset (wait microseconds) next
 Told script offset (End next) = (next ≡ offset) × EndTold script offset
-Told script offset (Refused number next) = (next ≡ offset) × (length script ≤ longestScript → offset ≤ length script → RefusalTold script offset number)
+Told script offset (Refused number next) = (next ≡ offset) × RefusalTold script offset number
 
-record-at-told : (script : List ℕ) (offset : ℕ) → Told script offset (recordAt script offset)
-unfolding recordAt
-record-at-told script offset =
-    cond-elim (Told script offset) (ltb longestScript (length script))
-    (λ long. (refl, λ short inside. absurd (omega (arith, ltb-true longestScript (length script) long))))
-    (λ _. cond-elim (Told script offset) (ltb (length script) offset)
-    (λ past. (refl, λ short inside. absurd (omega (arith, ltb-true (length script) offset past))))
-    (λ inside. by-front (ltb-false (length script) offset inside) (front (drop offset script)) refl))
+-- `front_at`'s answer, by what stands at the offset
+pub front-told : (script : List ℕ) (offset : ℕ) (found : Found) → found ≡ answer offset (front (drop offset script)) → Told script offset found
+front-told script offset found e = rw e (by-front (front (drop offset script)) refl)
   where
-    by-front : offset ≤ length script → (f : Front) → front (drop offset script) ≡ f → Told script offset (answer offset f)
-    by-front inside end e =
-        let none : drop offset script ≡ [] = rw e at (front-seen (drop offset script)) in (
-          refl,
-          record { at-end = omega (arith, ap length none, length-drop offset script); decoded = decode-end (drop offset script) e },
-        )
-    by-front inside (item (frame bytes) rest) e =
+    by-front : (f : Front) → front (drop offset script) ≡ f → Told script offset (answer offset f)
+    by-front end e = (refl, record { decoded = decode-end (drop offset script) e })
+    by-front (item (frame bytes) rest) e =
         let is : take (length bytes) (drop (offset + 4) script) ≡ bytes = frame-bytes script offset e in
         record { start-is = refl; long = ap length is; stands = rw is (stands script offset e) }
-    by-front inside (item (wait microseconds) rest) e = stands script offset e
-    by-front inside (malformed fault) e =
-        (refl, λ short within. record { fault = fault; number-is = refl; decoded = decode-malformed (drop offset script) e })
+    by-front (item (wait microseconds) rest) e = stands script offset e
+    by-front (malformed fault) e = (refl, record { fault = fault; number-is = refl; decoded = decode-malformed (drop offset script) e })
 
-pub answer-told : (script : List ℕ) (offset : ℕ) (found : Found) → found ≡ recordAt script offset → Told script offset found
-answer-told script offset found e = rw e (record-at-told script offset)
+-- `record_at`'s answer tells the same, where it is no refusal
+pub answer-told : (script : List ℕ) (offset : ℕ) (found : Found) → found ≡ recordAt script offset → numberOf found ≡ 0 → Told script offset found
+unfolding recordAt
+answer-told script offset found e =
+    rw e
+    (cond-elim Accepted (ltb longestScript (length script)) (λ _ none. absurd (omega arith))
+    (λ _. cond-elim Accepted (ltb (length script) offset) (λ _ none. absurd (omega arith)) (λ _ _. front-told script offset _ refl)))
+  where
+    Accepted : Found → Type 0
+    Accepted given = numberOf given ≡ 0 → Told script offset given
 
 -- a frame's part is the frame
 pub frame-part-is-frame : (script : List ℕ) (offset : ℕ) {bytes rest : List ℕ} → length script ≤ longestScript

@@ -1,38 +1,21 @@
 -- The test `isSound` says exactly `Sound`.
 -- Assumes nothing.
-use mathlib.Core.Path.{_≡_, refl}
-use mathlib.Core.Bool.{Bool, true, false, _&&_, _||_, not}
-use mathlib.Core.List.{List, [], _∷_}
-use Prim.Native.Nat.{_%_, _<_}
+use mathlib.Core.Path.{_≡_, refl, ap}
+use mathlib.Core.Bool.{true, false, _||_, not}
+use Prim.Native.Nat.{_%_, _≤_, _<_}
 use native.Mathlib.Omega.{arith}
 use lib.Dec.{leb, ltb, eqb}
-use borrow.Author.Tests.{leb-true, ltb-true, eqb-true, ltb-false, le-leb, lt-ltb, le-ltb, eq-eqb, not-true}
+use borrow.Author.Tests.{leb-true, ltb-true, eqb-true, ltb-false, le-leb, lt-ltb, le-ltb, eq-eqb, not-true, not-false}
 use Rattle.common.specs.Lists.{Each}
-use Rattle.common.proofs.Laws.Booleans.{and-l, and-r, and-i, not-i, or-imp, imp-or, implies-elim, implies-i}
+use Rattle.common.proofs.Laws.Booleans.{and-l, and-r, and-i, not-i, or-imp, imp-or, or-none-l, or-none-r, implies-elim, implies-i}
+use Rattle.common.proofs.Laws.Choice.{cases}
 use Rattle.common.proofs.Laws.Pairs.{_▹_}
+use Rattle.chip.specs.Chip.{isKnown}
 use Rattle.state.specs.declared.State.{State}
 use Rattle.state.specs.State.{dataOf}
 use Rattle.state.specs.Protection.{firstProtected}
-use Rattle.state.specs.Soundness.{allFrom, allOf, isBusy, registerClauses, aaiClauses, isSound, Running, Sound}
-
--- ---- a list of clauses
-
-abbrev Holds : Bool → Type 0
-Holds b = b ≡ true
-
-each-from : (a : Bool) (bs : List Bool) → allFrom a bs ≡ true → (a ≡ true) × Each Holds bs
-each-from a [] e = (e, tt)
-each-from a (b ∷ bs) e = let k = each-from (a && b) bs e in (and-l a b (k .0), (and-r a b (k .0), k .1))
-
-each : (bs : List Bool) → allOf bs ≡ true → Each Holds bs
-each bs e = each-from true bs e .1
-
-from-each : (a : Bool) (bs : List Bool) → a ≡ true → Each Holds bs → allFrom a bs ≡ true
-from-each a [] e k = e
-from-each a (b ∷ bs) e k = from-each (a && b) bs (and-i e (k .0)) (k .1)
-
-all-each : (bs : List Bool) → Each Holds bs → allOf bs ≡ true
-all-each bs k = from-each true bs refl k
+use Rattle.state.specs.Soundness.{allOf, isBusy, registerClauses, aaiClauses, isSound, Busy, Running, Sound}
+use Rattle.state.proofs.Laws.Clauses.{Holds, each, all-each, fails-at, denied}
 
 -- ---- from the test to the words
 
@@ -77,7 +60,7 @@ sound-of s e =
 
 -- ---- and back
 
-of-running : (s : State) → (s .aai ≡ true → Running s) → (s .aai ≡ false → s .next ≡ 0) → Each Holds (aaiClauses s)
+pub of-running : (s : State) → (s .aai ≡ true → Running s) → (s .aai ≡ false → s .next ≡ 0) → Each Holds (aaiClauses s)
 of-running s r z =
     imp-or (s .aai) (eqb (s .next) 0) (λ a. eq-eqb (s .next) 0 (z a))
     ▹ implies-i (s .aai) (s .wel) (λ a. r a .enabled)
@@ -90,22 +73,53 @@ of-running s r z =
     (λ b. lt-ltb (s .next) (firstProtected s) (r a .next-lt-first (let h = ltb-false 0 (s .left) b in omega arith))))
     ▹ tt
 
+-- the registers' clauses
+pub of-registers : (s : State) → isKnown (s .chip) ≡ true → s .bp ≤ 7 → s .left ≤ dataOf s .«chip_time»
+    → (0 < s .left → Busy s)
+    → (s .armed ≡ true → s .«power_down» ≡ false)
+    → (dataOf s .ewsr ≡ false → s .armed ≡ true → s .wel ≡ true)
+    → (s .tb ≡ true → dataOf s .«top_bottom» ≡ true)
+    → (s .«power_down» ≡ true → dataOf s .sleeps ≡ true)
+    → (s .aai ≡ true → dataOf s .aai ≡ true)
+    → allOf (registerClauses s) ≡ true
+of-registers s known three short busy awake enabled tb sleeps aai =
+    all-each (registerClauses s) (
+    known
+    ▹ le-leb (s .bp) 7 three
+    ▹ le-leb (s .left) (dataOf s .«chip_time») short
+    ▹ implies-i (isBusy s) (s .wel) (λ b. busy (ltb-true 0 (s .left) b) .enabled)
+    ▹ implies-i (isBusy s) (not (s .armed)) (λ b. not-i (s .armed) (busy (ltb-true 0 (s .left) b) .disarmed))
+    ▹ implies-i (isBusy s) (not (s .«power_down»)) (λ b. not-i (s .«power_down») (busy (ltb-true 0 (s .left) b) .awake))
+    ▹ implies-i (s .armed) (not (s .«power_down»)) (λ a. not-i (s .«power_down») (awake a))
+    ▹ implies-i (s .armed) (dataOf s .ewsr || s .wel) (λ a. imp-or (dataOf s .ewsr) (s .wel) (λ w. enabled w a))
+    ▹ implies-i (s .tb) (dataOf s .«top_bottom») tb
+    ▹ implies-i (s .«power_down») (dataOf s .sleeps) sleeps
+    ▹ implies-i (s .aai) (dataOf s .aai) aai
+    ▹ tt
+    )
+
 pub of-sound : (s : State) → Sound s → isSound s ≡ true
 unfolding isSound
 of-sound s h =
     and-i
-    (all-each (registerClauses s) (
-    h .chip-known
-    ▹ le-leb (s .bp) 7 (h .bp-le-7)
-    ▹ le-leb (s .left) (dataOf s .«chip_time») (h .left-le-chip-time)
-    ▹ implies-i (isBusy s) (s .wel) (λ b. h .while-busy (ltb-true 0 (s .left) b) .enabled)
-    ▹ implies-i (isBusy s) (not (s .armed)) (λ b. not-i (s .armed) (h .while-busy (ltb-true 0 (s .left) b) .disarmed))
-    ▹ implies-i (isBusy s) (not (s .«power_down»)) (λ b. not-i (s .«power_down») (h .while-busy (ltb-true 0 (s .left) b) .awake))
-    ▹ implies-i (s .armed) (not (s .«power_down»)) (λ a. not-i (s .«power_down») (h .armed-awake a))
-    ▹ implies-i (s .armed) (dataOf s .ewsr || s .wel) (λ a. imp-or (dataOf s .ewsr) (s .wel) (λ w. h .armed-enabled w a))
-    ▹ implies-i (s .tb) (dataOf s .«top_bottom») (h .tb-had)
-    ▹ implies-i (s .«power_down») (dataOf s .sleeps) (h .power-down-had)
-    ▹ implies-i (s .aai) (dataOf s .aai) (h .aai-had)
-    ▹ tt
-    ))
+    (of-registers s (h .chip-known) (h .bp-le-7) (h .left-le-chip-time) (h .while-busy) (h .armed-awake) (h .armed-enabled) (h .tb-had) (h .power-down-had) (h .aai-had))
     (all-each (aaiClauses s) (of-running s (h .in-aai) (h .next-0-without-aai)))
+
+-- ---- the code's test of "and then WEL is 1 and neither armed nor power-down holds"
+
+pub busy-holds : (s : State) → (not (s .wel) || s .armed) || s .«power_down» ≡ false → Busy s
+busy-holds s e =
+    let two = or-none-l (not (s .wel) || s .armed) (s .«power_down») e in
+    record {
+      enabled = not-false (s .wel) (or-none-l (not (s .wel)) (s .armed) two);
+      disarmed = or-none-r (not (s .wel)) (s .armed) two;
+      awake = or-none-r (not (s .wel) || s .armed) (s .«power_down») e;
+    }
+
+pub busy-fails : (s : State) → 0 < s .left → (not (s .wel) || s .armed) || s .«power_down» ≡ true → false ≡ allOf (registerClauses s)
+busy-fails s h e =
+    cases (s .wel)
+    (λ w. cases (s .armed)
+    (λ a. fails-at 4 (registerClauses s) (denied (busy-true s h) (rw a refl)))
+    (λ a. fails-at 5 (registerClauses s) (denied (busy-true s h) (ap not (or-imp (not (s .wel) || s .armed) (s .«power_down») e (rw (w, a) refl))))))
+    (λ w. fails-at 3 (registerClauses s) (denied (busy-true s h) w))

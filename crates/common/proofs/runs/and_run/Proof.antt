@@ -6,7 +6,7 @@ use native.Mathlib.Omega.{arith}
 use lib.ListN.{length, getD, length-set}
 use lib.Bits.{bitAnd}
 use Rattle.common.specs.Lists.{mapi, upTo, onRun}
-use Rattle.common.proofs.Laws.Lists.{run-start, run-turn, run-end}
+use Rattle.common.proofs.Laws.Runs.{run-start, run-turn, run-end}
 use borrow.Author.Needs.{needs}
 use Rattle.common.proofs.runs.and_run.Statement.{statement}
 use Rattle.common.proofs.runs.and_run.Tie as tie

@@ -5,7 +5,7 @@ use Prim.Native.Nat.{_-_, _≤_}
 use native.Mathlib.Omega.{arith}
 use lib.ListN.{length, length-set}
 use Rattle.common.specs.Lists.{mapi, upTo, onRun}
-use Rattle.common.proofs.Laws.Lists.{run-start, run-turn, run-end}
+use Rattle.common.proofs.Laws.Runs.{run-start, run-turn, run-end}
 use borrow.Author.Needs.{needs}
 use Rattle.common.proofs.runs.fill_run.Statement.{statement}
 use Rattle.common.proofs.runs.fill_run.Tie as tie

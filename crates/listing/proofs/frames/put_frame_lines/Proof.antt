@@ -10,7 +10,7 @@ use Rattle.script.proofs.reader.Found.{the-type}
 use Rattle.script.specs.declared.reader.Found.{Found}
 use Rattle.script.specs.declared.reader.Found.the-variants.{Frame, Wait, End, Refused}
 use Rattle.script.specs.Record.{wait}
-use Rattle.script.proofs.Laws.Answers.{good-not-refused, Stands, FrameTold, EndTold, Told, answer-told}
+use Rattle.script.proofs.Laws.Answers.{good-not-refused, Stands, FrameTold, EndTold, Told, front-told}
 use Rattle.listing.proofs.Laws.Frames.{Shown, show-start, frame-inside, frame-room, show-frame, show-wait, show-end}
 use borrow.Author.Needs.{needs}
 use Rattle.listing.proofs.frames.put_frame_lines.Statement.{statement}
@@ -26,13 +26,16 @@ abbrev Script : tie.At-loop Inv-loop μ-loop → List ℕ
 Script l = l .before .before .before .before .args .script .now
 
 -- what the answers tell
+told : (c : tie.After-front-at Inv-loop μ-loop) → Told (Script (c .before)) (c .before .loop .at) (c .front-at .result)
+told c = front-told (Script (c .before)) (c .before .loop .at) (c .front-at .result) (c .front-at .ensures)
+
 framed : (c : tie.After-known-told Inv-loop μ-loop)
     → FrameTold (Script (c .before .before .before .before)) (c .before .before .before .before .loop .at) (c .before .found .given .0 .0) (c .before .found .given .0 .1 .0) (c .before .found .given .0 .1 .1 .0)
-framed c = rw (c .before .found .given .1) at (answer-told _ _ _ (c .before .before .before .record-at .ensures .0))
+framed c = rw (c .before .found .given .1) at (told (c .before .before .before))
 
 waited : (c : tie.After-known-told2 Inv-loop μ-loop)
     → Stands (Script (c .before .before .before .before)) (c .before .before .before .before .loop .at) (wait (c .before .found2 .given .0 .0)) (c .before .found2 .given .0 .1 .0)
-waited c = rw (c .before .found2 .given .1) at (answer-told _ _ _ (c .before .before .before .record-at .ensures .0))
+waited c = rw (c .before .found2 .given .1) at (told (c .before .before .before))
 
 -- there is no other answer than the end
 ended : (c : tie.At-match-keys3 Inv-loop μ-loop) (found : Found) → OneOf (2 ∷ 3 ∷ []) (tagOf the-type found)
@@ -40,13 +43,13 @@ ended : (c : tie.At-match-keys3 Inv-loop μ-loop) (found : Found) → OneOf (2 �
 ended c (Frame start n next) h t = absurd (miss (2 ∷ 3 ∷ []) 0 tt h)
 ended c (Wait microseconds next) h t = absurd (miss (2 ∷ 3 ∷ []) 1 tt h)
 ended c (End next) h t = t .1
-ended c (Refused number next) h t = let w = c .before .before .loop .inv in absurd (good-not-refused (w .decoded) (t .1 (w .short) (w .inside)))
+ended c (Refused number next) h t = absurd (good-not-refused (c .before .before .loop .inv .decoded) (t .1))
 
 loop-holds : tie.Need-loop-holds Inv-loop μ-loop
 loop-holds c = let s = c .before .before .before in show-start _ _ _ (s .pre .0) (s .pre .1 .0) (s .pre .1 .1)
 
-record-at-requires : tie.Need-record-at-requires Inv-loop μ-loop
-record-at-requires c κs = search needs
+front-at-requires : tie.Need-front-at-requires Inv-loop μ-loop
+front-at-requires c κs = search needs
 
 enum-known-found : tie.Need-enum-known-found Inv-loop μ-loop
 enum-known-found c = search needs
@@ -86,7 +89,7 @@ same-length c = c .before .before .loop .inv .lays .long
 
 returns : tie.Need-returns Inv-loop μ-loop
 returns c =
-    show-end (c .before .before .loop .inv) (ended c (c .before .record-at .result) (c .match .keys3) (answer-told _ _ _ (c .before .record-at .ensures .0)))
+    show-end (c .before .before .loop .inv) (ended c (c .before .front-at .result) (c .match .keys3) (told (c .before)))
 
 pub put-frame-lines-spec : {M : Type 1} → statement M
 put-frame-lines-spec =
@@ -95,7 +98,7 @@ put-frame-lines-spec =
     Inv-loop
     μ-loop
     loop-holds
-    record-at-requires
+    front-at-requires
     enum-known-found
     add-end
     sub-put-hex-line

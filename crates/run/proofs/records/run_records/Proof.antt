@@ -11,10 +11,9 @@ use Rattle.script.specs.declared.reader.Found.{Found}
 use Rattle.script.specs.declared.reader.Found.the-variants.{Frame, Wait, End, Refused}
 use Rattle.script.specs.Record.{wait}
 use Rattle.common.proofs.Laws.Bits.{bytes-within}
-use Rattle.script.proofs.Laws.Answers.{good-not-refused, Stands, FrameTold, EndTold, Told, answer-told}
-use Rattle.run.specs.Run.{device}
-use Rattle.run.proofs.Laws.Accepted.{number-accepted}
-use Rattle.run.proofs.Laws.Walk.{Walked, walk-start, frame-room, walk-frame, walk-wait, walk-end}
+use Rattle.script.proofs.Laws.Answers.{good-not-refused, Stands, FrameTold, EndTold, Told, front-told}
+use Rattle.frame.specs.Device.{device}
+use Rattle.run.proofs.Laws.Walk.{Walked, walk-start, frame-room, walk-accepted, walk-frame, walk-wait, walk-end}
 use borrow.Author.Needs.{needs}
 use Rattle.run.proofs.records.run_records.Statement.{statement}
 use Rattle.run.proofs.records.run_records.Tie as tie
@@ -30,15 +29,18 @@ abbrev Script : tie.At-loop Inv-loop μ-loop → List ℕ
 Script l = l .before .before .before .before .args .script .now
 
 -- what the answers tell
+told : (c : tie.After-front-at Inv-loop μ-loop) → Told (Script (c .before)) (c .before .loop .at) (c .front-at .result)
+told c = front-told (Script (c .before)) (c .before .loop .at) (c .front-at .result) (c .front-at .ensures)
+
 framed : (c : tie.After-known-told Inv-loop μ-loop)
     → FrameTold (Script (c .before .before .before .before)) (c .before .before .before .before .loop .at)
     (c .before .found .given .0 .0) (c .before .found .given .0 .1 .0) (c .before .found .given .0 .1 .1 .0)
-framed c = rw (c .before .found .given .1) at (answer-told _ _ _ (c .before .before .before .record-at .ensures .0))
+framed c = rw (c .before .found .given .1) at (told (c .before .before .before))
 
 waited : (c : tie.After-known-told2 Inv-loop μ-loop)
     → Stands (Script (c .before .before .before .before)) (c .before .before .before .before .loop .at)
     (wait (c .before .found2 .given .0 .0)) (c .before .found2 .given .0 .1 .0)
-waited c = rw (c .before .found2 .given .1) at (answer-told _ _ _ (c .before .before .before .record-at .ensures .0))
+waited c = rw (c .before .found2 .given .1) at (told (c .before .before .before))
 
 -- there is no other answer than the end
 ended : (c : tie.At-match-keys3 Inv-loop μ-loop) (found : Found) → OneOf (2 ∷ 3 ∷ []) (tagOf the-type found)
@@ -47,16 +49,16 @@ ended c (Frame start n next) h t = absurd (miss (2 ∷ 3 ∷ []) 0 tt h)
 ended c (Wait microseconds next) h t = absurd (miss (2 ∷ 3 ∷ []) 1 tt h)
 ended c (End next) h t = t .1
 ended c (Refused number next) h t =
-    let w = c .before .before .loop .inv in absurd (good-not-refused (w .decoded) (t .1 (w .short) (w .inside)))
+    absurd (good-not-refused (c .before .before .loop .inv .decoded) (t .1))
 
 loop-holds : tie.Need-loop-holds Inv-loop μ-loop
 loop-holds c =
     let a = c .before .before .before .args in
     let bytes = bytes-within (a .script .now) (λ k b. omega (arith, c .before .shared-slice-known .given k)) in
-    walk-start (a .wp) (a .s) (a .array .now) (a .script .now) (a .output .now) bytes (number-accepted _ _ _ _ (c .before .before .before .pre))
+    walk-start (a .wp) (a .script .now) (device (a .s) (a .array .now)) (a .output .now) bytes (c .before .before .before .pre)
 
-record-at-requires : tie.Need-record-at-requires Inv-loop μ-loop
-record-at-requires c κs = search needs
+front-at-requires : tie.Need-front-at-requires Inv-loop μ-loop
+front-at-requires c κs = search needs
 
 enum-known-found : tie.Need-enum-known-found Inv-loop μ-loop
 enum-known-found c = search needs
@@ -67,39 +69,35 @@ part-at-requires c κs = let t = framed c in omega (arith, t .start-is, t .long,
 add-end : tie.Need-add-end Inv-loop μ-loop
 add-end c = let h = frame-room (c .before .before .before .before .before .loop .inv) (framed (c .before)) in search needs
 
-sub-run-frame : tie.Need-sub-run-frame Inv-loop μ-loop
-sub-run-frame c = search needs
+sub-run-accepted : tie.Need-sub-run-accepted Inv-loop μ-loop
+sub-run-accepted c = search needs
 
-part-run-frame-start : tie.Need-part-run-frame-start Inv-loop μ-loop
-part-run-frame-start c = search needs
+part-run-accepted-start : tie.Need-part-run-accepted-start Inv-loop μ-loop
+part-run-accepted-start c = search needs
 
-part-run-frame-end : tie.Need-part-run-frame-end Inv-loop μ-loop
-part-run-frame-end c = frame-room (c .before .before .before .before .before .before .loop .inv) (framed (c .before .before))
+part-run-accepted-end : tie.Need-part-run-accepted-end Inv-loop μ-loop
+part-run-accepted-end c = frame-room (c .before .before .before .before .before .before .loop .inv) (framed (c .before .before))
 
-run-frame-requires : tie.Need-run-frame-requires Inv-loop μ-loop
-run-frame-requires c κs = search needs
+run-accepted-requires : tie.Need-run-accepted-requires Inv-loop μ-loop
+run-accepted-requires c κs = walk-accepted (c .before .before .before .before .before .before .before .loop .inv) (framed (c .before .before .before)) (c .before .before .part-at .ensures)
 
 loop-less : tie.Need-loop-less Inv-loop μ-loop
-loop-less c =
-    let s = framed (c .before .before .before .before .before .before .before .before .before) .stands in omega (arith, s .next-is, s .least, s .inside)
+loop-less c = let s = framed (c .before .before .before .before .before .before .before .before) .stands in omega (arith, s .next-is, s .least, s .inside)
 
 loop-again : tie.Need-loop-again Inv-loop μ-loop
-loop-again c =
-    let p = c .before .before .before .before .before .before .before .before .before in
-    walk-frame (p .before .before .before .before .loop .inv) (framed p) (c .before .before .before .before .before .before .before .before .part-at .ensures)
-    (c .before .before .before .before .before .run-frame .ensures)
+loop-again c = walk-frame (c .before .before .before .before .before .before .before .before .before .before .before .before .loop .inv) (framed (c .before .before .before .before .before .before .before .before)) (c .before .before .before .before .before .before .before .part-at .ensures) (c .before .before .before .before .run-accepted .ensures)
 
 enum-known-found-2 : tie.Need-enum-known-found-2 Inv-loop μ-loop
 enum-known-found-2 c = search needs
 
-pass-time-requires : tie.Need-pass-time-requires Inv-loop μ-loop
-pass-time-requires c κs = search needs
+time-passed-requires : tie.Need-time-passed-requires Inv-loop μ-loop
+time-passed-requires c κs = search needs
 
 loop-less-2 : tie.Need-loop-less-2 Inv-loop μ-loop
-loop-less-2 c = let s = waited (c .before .before) in omega (arith, s .next-is, s .inside)
+loop-less-2 c = let s = waited (c .before) in omega (arith, s .next-is, s .inside)
 
 loop-again-2 : tie.Need-loop-again-2 Inv-loop μ-loop
-loop-again-2 c = walk-wait (c .before .before .before .before .before .before .loop .inv) (waited (c .before .before)) (c .before .pass-time .ensures)
+loop-again-2 c = walk-wait (c .before .before .before .before .before .loop .inv) (waited (c .before)) (c .time-passed .ensures)
 
 same-length : tie.Need-same-length Inv-loop μ-loop
 same-length c = c .before .before .loop .inv .sized
@@ -109,7 +107,7 @@ same-length-2 c = c .before .before .loop .inv .long
 
 returns : tie.Need-returns Inv-loop μ-loop
 returns c =
-    let t = ended c (c .before .record-at .result) (c .match .keys3) (answer-told _ _ _ (c .before .record-at .ensures .0)) in
+    let t = ended c (c .before .front-at .result) (c .match .keys3) (told (c .before)) in
     let e = walk-end (c .before .before .loop .inv) t in
     record { device-is = e .0; output-is = e .1 }
 
@@ -120,18 +118,18 @@ run-records-spec =
     Inv-loop
     μ-loop
     loop-holds
-    record-at-requires
+    front-at-requires
     enum-known-found
     part-at-requires
     add-end
-    sub-run-frame
-    part-run-frame-start
-    part-run-frame-end
-    run-frame-requires
+    sub-run-accepted
+    part-run-accepted-start
+    part-run-accepted-end
+    run-accepted-requires
     loop-less
     loop-again
     enum-known-found-2
-    pass-time-requires
+    time-passed-requires
     loop-less-2
     loop-again-2
     same-length

@@ -42,7 +42,7 @@ part-at-requires : tie.Need-part-at-requires
 part-at-requires c κs =
     let a = c .before .before .before .before .before .args in
     let r = c .before .before .before .record-at in
-    let t = rw (c .before .found .given .1) at (answer-told (a .script .now) (a .offset) (r .result) (r .ensures .0)) in
+    let t = (rw (c .before .found .given .1) at (answer-told (a .script .now) (a .offset) (r .result) (r .ensures .0))) refl in
     omega (arith, t .start-is, t .long, t .stands .next-is, t .stands .inside)
 
 returns-2 : tie.Need-returns-2

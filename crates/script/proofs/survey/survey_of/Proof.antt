@@ -7,7 +7,7 @@ use native.Mathlib.Omega.{arith}
 use borrow.Author.Needs.{needs}
 use lib.ListN.{length}
 use Rattle.script.specs.Record.{wait}
-use Rattle.script.proofs.Laws.Answers.{Stands, FrameTold, answer-told}
+use Rattle.script.proofs.Laws.Answers.{Stands, FrameTold, Told, front-told}
 use Rattle.script.proofs.Laws.Survey.{survey-long, Counted, count-start, count-frame, count-wait, count-end, count-refused}
 use Rattle.script.proofs.survey.survey_of.Statement.{statement}
 use Rattle.script.proofs.survey.survey_of.Tie as tie
@@ -22,15 +22,18 @@ abbrev Script : tie.At-loop Inv-loop μ-loop → List ℕ
 Script l = l .before .before .before .args .script .now
 
 -- what the answers tell
+told : (c : tie.After-front-at Inv-loop μ-loop) → Told (Script (c .before)) (c .before .loop .at) (c .front-at .result)
+told c = front-told (Script (c .before)) (c .before .loop .at) (c .front-at .result) (c .front-at .ensures)
+
 framed : (c : tie.After-known-told Inv-loop μ-loop)
     → FrameTold (Script (c .before .before .before .before)) (c .before .before .before .before .loop .at)
     (c .before .found .given .0 .0) (c .before .found .given .0 .1 .0) (c .before .found .given .0 .1 .1 .0)
-framed c = rw (c .before .found .given .1) at (answer-told _ _ _ (c .before .before .before .record-at .ensures .0))
+framed c = rw (c .before .found .given .1) at (told (c .before .before .before))
 
 waited : (c : tie.After-known-told2 Inv-loop μ-loop)
     → Stands (Script (c .before .before .before .before)) (c .before .before .before .before .loop .at)
     (wait (c .before .found2 .given .0 .0)) (c .before .found2 .given .0 .1 .0)
-waited c = rw (c .before .found2 .given .1) at (answer-told _ _ _ (c .before .before .before .record-at .ensures .0))
+waited c = rw (c .before .found2 .given .1) at (told (c .before .before .before))
 
 refused-survey-requires : tie.Need-refused-survey-requires Inv-loop μ-loop
 refused-survey-requires c κs = search needs
@@ -41,8 +44,8 @@ returns c = c .refused-survey .ensures ∙ sym (survey-long _ (c .before .if1 .t
 loop-holds : tie.Need-loop-holds Inv-loop μ-loop
 loop-holds c = count-start _ (c .if1 .left)
 
-record-at-requires : tie.Need-record-at-requires Inv-loop μ-loop
-record-at-requires c κs = search needs
+front-at-requires : tie.Need-front-at-requires Inv-loop μ-loop
+front-at-requires c κs = search needs
 
 enum-known-found : tie.Need-enum-known-found Inv-loop μ-loop
 enum-known-found c = search needs
@@ -82,7 +85,7 @@ counted-survey-requires c κs = search needs
 
 returns-2 : tie.Need-returns-2 Inv-loop μ-loop
 returns-2 c =
-    let t = rw (c .before .enum-told .given .1) at (answer-told _ _ _ (c .before .before .before .record-at .ensures .0)) in
+    let t = rw (c .before .enum-told .given .1) at (told (c .before .before .before)) in
     c .counted-survey .ensures ∙ count-end (t .1) (c .before .before .before .before .loop .inv)
 
 enum-known-found-3 : tie.Need-enum-known-found-3 Inv-loop μ-loop
@@ -94,8 +97,8 @@ refused-survey-requires-2 c κs = search needs
 returns-3 : tie.Need-returns-3 Inv-loop μ-loop
 returns-3 c =
     let k = c .before .before .before .before .before .loop .inv in
-    let t = rw (c .before .before .found3 .given .1) at (answer-told _ _ _ (c .before .before .before .before .record-at .ensures .0)) in
-    c .refused-survey2 .ensures ∙ rw (t .0) (count-refused (t .1 (k .short) (k .inside)) k)
+    let t = rw (c .before .before .found3 .given .1) at (told (c .before .before .before .before)) in
+    c .refused-survey2 .ensures ∙ rw (t .0) (count-refused (t .1) k)
 
 pub survey-of-spec : {M : Type 1} → statement M
 survey-of-spec =
@@ -106,7 +109,7 @@ survey-of-spec =
     refused-survey-requires
     returns
     loop-holds
-    record-at-requires
+    front-at-requires
     enum-known-found
     add-frames
     add-output
