@@ -25,8 +25,8 @@ abbrev pub onRun : ℕ → ℕ → (ℕ → ℕ → ℕ) → ℕ → ℕ → ℕ
 onRun lo hi f k x = cond (leb lo k && ltb k hi) (f k x) x
 
 -- the first n elements of a list are those of another from place `at` on
-abbrev pub Carries : ℕ → List ℕ → ℕ → List ℕ → Type 0
-Carries n source at strip = (i : ℕ) → i < n → getD strip i 0 ≡ getD source (at + i) 0
+abbrev pub FrontIs : ℕ → List ℕ → ℕ → List ℕ → Type 0
+FrontIs n source at strip = (i : ℕ) → i < n → getD strip i 0 ≡ getD source (at + i) 0
 
 -- how many numbers below k pass the test
 unfoldable pub countBelow : (ℕ → Bool) → ℕ → ℕ

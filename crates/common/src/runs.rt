@@ -3,7 +3,7 @@ ghost use mathlib.Core.Path.{_≡_};
 ghost use Prim.Native.Nat.{_+_, _-_, _≤_, _<_};
 ghost use lib.Bits.{bitAnd};
 ghost use lib.ListN.{getD, length};
-ghost use Rattle.common.specs.Lists.{mapi, onRun, Carries};
+ghost use Rattle.common.specs.Lists.{mapi, onRun, FrontIs};
 
 const STRIP: usize = 4096;
 
@@ -34,7 +34,7 @@ fn copy_bytes(bytes: &mut [u8], from: usize, to: usize, source: &[u8], at: usize
 // The front of a strip takes the bytes of a slice from `at` on.
 fn fill_strip(strip: &mut [u8; STRIP], count: usize, source: &[u8], at: usize)
     requires { ⌜ (0 < count) × (count ≤ 4096) × (at + count ≤ length (now source)) ⌝ }
-    ensures { λ _. ⌜ (length (now (strip .exit)) ≡ 4096) × Carries count (now (source .entry)) at (now (strip .exit)) ⌝ }
+    ensures { λ _. ⌜ (length (now (strip .exit)) ≡ 4096) × FrontIs count (now (source .entry)) at (now (strip .exit)) ⌝ }
 {
     copy_bytes(strip, 0, count, source, at);
 }

@@ -9,7 +9,7 @@ use native.Mathlib.Omega.{arith}
 use lib.Dec.{leb}
 use lib.ListN.{length, getD, set}
 use borrow.Author.Tests.{lt-ltb, le-ltb, le-leb, lt-leb}
-use Rattle.common.specs.Lists.{mapi, upTo, onRun, Carries}
+use Rattle.common.specs.Lists.{mapi, upTo, onRun, FrontIs}
 use Rattle.common.proofs.Laws.Lists.{split, getD-mapi, mapi-cong, mapi-mapi, loop-start, loop-turn, loop-end}
 
 module _ (lo hi : ℕ) (f : ℕ → ℕ → ℕ) (l : List ℕ) where
@@ -59,14 +59,14 @@ copied-on source at from k j x p q = ap (λ (n : ℕ). getD source n 0) (omega a
 
 -- a strip whose front was filled carries what it was filled with
 pub strip-filled : (n at : ℕ) (source before : List ℕ) {strip : List ℕ} → n ≤ length before
-    → strip ≡ mapi (onRun 0 n (copied source at 0)) before → Carries n source at strip
+    → strip ≡ mapi (onRun 0 n (copied source at 0)) before → FrontIs n source at strip
 strip-filled n at source before fits e i b =
     let minus : i - 0 ≡ i = omega arith in
     ap (λ (l : List ℕ). getD l i 0) e ∙ getD-mapi (onRun 0 n (copied source at 0)) before i 0 (omega arith)
     ∙ rw (le-leb 0 i (omega arith), lt-ltb i n b, minus) refl
 
 -- what a strip carries, copied to a run
-pub through-strip : (from to at : ℕ) (source strip bytes : List ℕ) → from ≤ to → Carries (to - from) source at strip
+pub through-strip : (from to at : ℕ) (source strip bytes : List ℕ) → from ≤ to → FrontIs (to - from) source at strip
     → mapi (onRun from to (copied strip 0 from)) bytes ≡ mapi (onRun from to (copied source at from)) bytes
 through-strip from to at source strip bytes h carries =
     run-cong from to (copied source at from) bytes (copied strip 0 from) h

@@ -28,7 +28,6 @@ use Rattle.frame.specs.Call.{frameNumber, Accepted, frameDevice, cutDevi
 use Rattle.frame.proofs.Laws.Accepted.{cut-number-whole}
 use Rattle.frame.proofs.Laws.Call.{frame-accepted, frame-either, cut-either}
 use Rattle.frame.proofs.Laws.Inside.{effect-free}
-use Rattle.frame.proofs.Laws.Ran.{ran-length}
 
 -- what holds of a byte that stays, and of each that a change leaves, holds of each byte before and after
 each : (g : ℕ → ℕ → ℕ) (l : List ℕ) (P : ℕ → ℕ → Type 0) → ((x : ℕ) → P x x) → (k : ℕ) → (k < length l → P (getD l k 0) (g k (getD l k 0)))
@@ -39,9 +38,6 @@ each g l P same k step =
 
 module _ (wp : Bool) (f : List ℕ) (d : Device) (output : List ℕ) where
   -- ---- run a frame
-
-  pub frame-array-length : length (frameDevice wp f d output .array) ≡ length (d .array)
-  frame-array-length = frame-either wp f d output (λ (e : Device). length (e .array) ≡ length (d .array)) refl (λ _. ran-length wp f d)
 
   frame-each : (P : ℕ → ℕ → Type 0) → ((x : ℕ) → P x x) → (k : ℕ)
       → (Accepted wp f d output → k < length (d .array) → P (getD (d .array) k 0) (changed (effectAt (d .state) wp f) f k (getD (d .array) k 0)))

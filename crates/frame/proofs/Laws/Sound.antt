@@ -1,6 +1,6 @@
--- Every call returns a sound state from a sound one, also where it refuses, and never another chip's.
+-- Every call returns a sound state from a sound one, also where it refuses.
 -- Assumes nothing.
-use mathlib.Core.Path.{_≡_, refl}
+use mathlib.Core.Path.{_≡_}
 use mathlib.Core.Bool.{Bool, true}
 use mathlib.Core.List.{List}
 use Prim.Native.Nat.{ℕ}
@@ -9,7 +9,7 @@ use Rattle.state.proofs.Laws.Soundness.{of-sound}
 use Rattle.frame.specs.Device.{Device}
 use Rattle.frame.specs.Call.{frameDevice, cutDevice}
 use Rattle.frame.proofs.Laws.Call.{frame-either, cut-either}
-use Rattle.frame.proofs.Laws.Ran.{ran-sound, ran-chip, torn-sound}
+use Rattle.frame.proofs.Laws.Ran.{ran-sound, torn-sound}
 
 module _ (wp : Bool) (f : List ℕ) (d : Device) (output : List ℕ) where
   pub frame-sound : isSound (d .state) ≡ true → isSound (frameDevice wp f d output .state) ≡ true
@@ -17,6 +17,3 @@ module _ (wp : Bool) (f : List ℕ) (d : Device) (output : List ℕ) where
 
   pub cut-sound : (mask : List ℕ) → isSound (d .state) ≡ true → isSound (cutDevice wp f mask d output .state) ≡ true
   cut-sound mask h = cut-either wp f d output mask (λ (e : Device). isSound (e .state) ≡ true) h (λ a. of-sound _ (torn-sound wp f d mask (a .whole .sound)))
-
-  pub frame-chip : frameDevice wp f d output .state .chip ≡ d .state .chip
-  frame-chip = frame-either wp f d output (λ (e : Device). e .state .chip ≡ d .state .chip) refl (λ _. ran-chip wp f d)

@@ -62,10 +62,6 @@ module _ (s : State) (n : ℕ) where
       (λ _. cond-elim Same (eqb (s .left) 0) (λ _. refl)
       (λ _. cond-elim Same (s .aai) (λ _. cond-elim Same (ltb (s .next) (firstProtected s)) (λ _. refl) (λ _. refl)) (λ _. refl)))
 
-  pub pass-time-chip : passTime s n .state .chip ≡ s .chip
-  unfolding passTime
-  pass-time-chip = cond-elim (λ (a : Answer). Same (a .state)) (eqb (stateRefusal s) 0) (λ _. time-passed-chip) (λ _. refl)
-
   -- ---- the call
 
   pub pass-time-granted : Sound s → passTime s n ≡ granted (timePassed s n)
