@@ -1,36 +1,43 @@
 #!/usr/bin/env bash
-# Builds the static library, then the C and the Rust example over it, and runs both; the header has to do for C++ as well.
+# Builds the static library, then the save over it in C, in C++ and in Rust. Each is run twice on an image of its own, first without one,
+# then on what it wrote; it has to tell what save.txt says and to leave the chip erased but for scenes 9 to 20.
 # The last line counts the three, and the exit is non-zero where one fails.
 set -uo pipefail
 cd "$(dirname "$0")/.." || exit 1
+library=target/staticlib/libhost.a built=target/examples
+strict=(-O2 -Wall -Wextra -Werror -pedantic -I include)
+work=$(mktemp -d) || exit 1
+trap 'rm -rf "$work"' EXIT
 passed=0 failed=0
 
-# a name and a command
+# a language, a program, and the command that builds it
 try() {
-    local name=$1
-    shift
-    if "$@"; then
+    local language=$1 program=$2
+    shift 2
+    if "$@" -o "$program" && tells_the_story "$program"; then
+        echo "save in $language: as it must be"
         passed=$((passed + 1))
     else
-        echo "example: $name: FAILED"
+        echo "save in $language: FAILED"
         failed=$((failed + 1))
     fi
 }
 
-in_c() {
-    gcc -std=c11 -O2 -Wall -Wextra -Wpedantic -Werror -I include examples/c/samples.c target/staticlib/libhost.a -o target/examples/samples_c &&
-        target/examples/samples_c
+# a program
+tells_the_story() {
+    rm -f "$work/chip.img"
+    { "$1" "$work/chip.img" && echo "once more" && "$1" "$work/chip.img"; } >"$work/told" &&
+        diff examples/save.txt "$work/told" && cmp "$work/saved" "$work/chip.img"
 }
 
-in_rust() {
-    rustc --edition 2024 -O -L target/staticlib examples/rust/samples.rs -o target/examples/samples_rust &&
-        target/examples/samples_rust
-}
-
-mkdir -p target/examples
 rt staticlib host | tail -1 || exit 1
-try "C" in_c
-try "the header in C++" g++ -std=c++17 -Wall -Wextra -Wpedantic -Werror -fsyntax-only -x c++ include/zeradok.h
-try "Rust" in_rust
+mkdir -p $built
+{
+    printf '\377\001\340'
+    head -c 1048573 /dev/zero | tr '\0' '\377'
+} >"$work/saved"
+try C $built/save_c gcc -std=c11 "${strict[@]}" examples/c/save.c $library
+try C++ $built/save_cpp g++ -std=c++17 "${strict[@]}" -x c++ examples/c/save.c -x none $library
+try Rust $built/save_rust rustc --edition 2024 -O -D warnings -L target/staticlib examples/rust/save.rs
 echo "$passed passed, $failed failed"
 [ "$failed" -eq 0 ]

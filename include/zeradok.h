@@ -14,7 +14,18 @@
  *  - every bool, in a state too, is 0 or 1; no other thread writes what a call was passed while it runs.
  * A state needs no further care: the calls refuse one that no chip can be in.
  *
- * After a cut the F25L05PA may stand unprotected.
+ * A save (examples/c/save.c has it whole):
+ *  1. zeradok_plan writes a script for the wanted bytes; what to do at each of its refusals is said there;
+ *  2. zeradok_read gives the records one by one, the first at offset 0 and each further at `next`, until kind 3, the end. Send each frame, its
+ *     bytes between one select and deselect, and wait each wait, in this order;
+ *  3. after a power cut power up (zeradok_cut_frame has done so) and plan the same bytes again, from the array as it is now and with 22 bytes
+ *     more room: that is accepted. By then each bit of those bytes is as before or as wanted, and nothing else has moved. (The F25L05PA may
+ *     stand unprotected.)
+ * Beside a real chip the model gets each frame and wait too, so that state and array stay the chip's; after power-up the array is read back
+ * (03). The waits are the sheets' typical times: wait on until bit 0 of the status (05) is 0. The F25L05PA's status write (01) takes no time
+ * here but up to 15 ms there (40 ms below 2.7 V): wait for bit 0 behind it as well. A 05 between 06 or 50 and the 01 would spoil the 01.
+ *
+ * `wp_high` is the level of the chip's WP pin: the same one for a plan and for sending it.
  */
 #ifndef ZERADOK_H
 #define ZERADOK_H
@@ -41,7 +52,8 @@ typedef struct { uint32_t number; zeradok_state state; uint32_t length, frames, 
 /* kind: 0 refused, 1 frame, 2 wait, 3 end. start and length (the frame's bytes in the script) are 0 unless it is a frame, microseconds unless it is a wait. */
 typedef struct { uint32_t number, kind; size_t start, length; uint32_t microseconds; size_t next; } zeradok_record;
 
-/* A new chip. Refusal 1: an unknown chip number (the state is then a new F25L05PA). Changes nothing. */
+/* A new chip: its state, the array being erased, all FF. An F25L008A has this state after every power-up; an F25L05PA keeps bp, tb and bpl, which
+ * are bits 2 to 4, 5 and 7 of its status (05). Refusal 1: an unknown chip number (the state is then a new F25L05PA). Changes nothing. */
 zeradok_answer zeradok_new(uint8_t chip);
 
 /* The state after power-off and power-up. Refusal 1: the state is not sound. Changes nothing. */
@@ -61,8 +73,12 @@ uint32_t zeradok_cut_frame(zeradok_state *chip, bool wp_high, uint8_t *array, si
                            uint8_t *output, size_t output_length, const uint8_t *mask, size_t mask_length);
 
 /* Plans the script that makes the bytes from start on as wanted, at the front of buffer. Changes buffer only; the state comes back as given.
- * Refusals: 1 state, 2 array length, 6 over 4,096 wanted bytes or they end past the array, 7 not at rest (busy, AAI, power-down),
- * 8 a wanted 1 where the array has 0, 9 protected with BPL 1 and WP low, 10 the buffer is too short. */
+ * Where nothing has to change the script is empty; where it must it unprotects the chip and protects it again. Refusals:
+ * 1 state, 2 array length, 6 over 4,096 wanted bytes or they end past the array: slips of the program;
+ * 7 not at rest: wait while busy, end AAI by 04, power-down by AB;
+ * 8 a wanted 1 where the array has 0: only an erase brings a 1 back, so give up that bit;
+ * 9 protected with BPL 1 and WP low: set WP high;
+ * 10 the buffer is too short: give more room. After a cut 22 bytes more are enough; for any plan 26,672 are. */
 zeradok_planned zeradok_plan(zeradok_state chip, bool wp_high, const uint8_t *array, size_t array_length, size_t start,
                              const uint8_t *wanted, size_t wanted_length, uint8_t *buffer, size_t buffer_length);
 

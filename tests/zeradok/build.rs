@@ -1,5 +1,5 @@
-//! Links libhost.a from the folder ZERADOK_LIB (absolute, or seen from this crate's folder);
-//! without it from the project's own target folder.
+//! Says where the binding finds libhost.a: in the folder ZERADOK_LIB (absolute, or seen from this
+//! crate's folder), without it in the project's own target folder.
 
 use std::{env, path::PathBuf};
 
@@ -12,5 +12,4 @@ fn main() {
     println!("cargo:rerun-if-changed={}", library.display());
     assert!(library.is_file(), "{} is missing: build the library first", library.display());
     println!("cargo:rustc-link-search=native={}", folder.display());
-    println!("cargo:rustc-link-lib=static=host");
 }

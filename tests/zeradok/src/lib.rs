@@ -1,6 +1,10 @@
-//! The library, called through its C interface with slices in the place of pointer and length.
+//! The library as the tests call it: the binding that stands beside the header, with the model's
+//! values in the place of its own.
 
-mod raw;
+#[path = "../../../include/zeradok.rs"]
+mod binding;
+mod convert;
+mod layout;
 
 use model::{Answer, Calls, Planned, Ran, Record, State};
 
@@ -9,7 +13,7 @@ pub struct Library;
 
 /// A chip's state as the library holds it: what a host keeps that sends many frames to one chip.
 #[derive(Clone, Copy)]
-pub struct Chip(raw::State);
+pub struct Chip(binding::State);
 
 impl From<State> for Chip {
     fn from(state: State) -> Self {
@@ -23,9 +27,6 @@ impl From<Chip> for State {
     }
 }
 
-// Every unsafe call below lends pointers and lengths of live slices, for the call alone, and no
-// two of them overlap where one is written.
-
 impl Chip {
     pub fn frame(
         &mut self,
@@ -34,32 +35,21 @@ impl Chip {
         frame: &[u8],
         output: &mut [u8],
     ) -> u32 {
-        unsafe {
-            raw::zeradok_frame(
-                &mut self.0,
-                wp_high,
-                array.as_mut_ptr(),
-                array.len(),
-                frame.as_ptr(),
-                frame.len(),
-                output.as_mut_ptr(),
-                output.len(),
-            )
-        }
+        binding::frame(&mut self.0, wp_high, array, frame, output)
     }
 }
 
 impl Calls for Library {
     fn new_chip(chip: u8) -> Answer {
-        unsafe { raw::zeradok_new(chip) }.into()
+        binding::new(chip).into()
     }
 
     fn power_up(state: State) -> Answer {
-        unsafe { raw::zeradok_power_up(state.into()) }.into()
+        binding::power_up(state.into()).into()
     }
 
     fn wait(state: State, microseconds: u32) -> Answer {
-        unsafe { raw::zeradok_wait(state.into(), microseconds) }.into()
+        binding::wait(state.into(), microseconds).into()
     }
 
     fn frame(
@@ -83,21 +73,8 @@ impl Calls for Library {
         output: &mut [u8],
         mask: &[u8],
     ) -> u32 {
-        let mut chip = raw::State::from(*state);
-        let number = unsafe {
-            raw::zeradok_cut_frame(
-                &mut chip,
-                wp_high,
-                array.as_mut_ptr(),
-                array.len(),
-                frame.as_ptr(),
-                frame.len(),
-                output.as_mut_ptr(),
-                output.len(),
-                mask.as_ptr(),
-                mask.len(),
-            )
-        };
+        let mut chip = binding::State::from(*state);
+        let number = binding::cut_frame(&mut chip, wp_high, array, frame, output, mask);
         *state = chip.into();
         number
     }
@@ -110,39 +87,14 @@ impl Calls for Library {
         wanted: &[u8],
         buffer: &mut [u8],
     ) -> Planned {
-        unsafe {
-            raw::zeradok_plan(
-                state.into(),
-                wp_high,
-                array.as_ptr(),
-                array.len(),
-                start,
-                wanted.as_ptr(),
-                wanted.len(),
-                buffer.as_mut_ptr(),
-                buffer.len(),
-            )
-        }
-        .into()
+        binding::plan(state.into(), wp_high, array, start, wanted, buffer).into()
     }
 
     fn run(state: State, wp_high: bool, array: &mut [u8], script: &[u8], output: &mut [u8]) -> Ran {
-        unsafe {
-            raw::zeradok_run(
-                state.into(),
-                wp_high,
-                array.as_mut_ptr(),
-                array.len(),
-                script.as_ptr(),
-                script.len(),
-                output.as_mut_ptr(),
-                output.len(),
-            )
-        }
-        .into()
+        binding::run(state.into(), wp_high, array, script, output).into()
     }
 
     fn read(script: &[u8], offset: usize) -> Record {
-        unsafe { raw::zeradok_read(script.as_ptr(), script.len(), offset) }.into()
+        binding::read(script, offset).into()
     }
 }

@@ -1,28 +1,9 @@
-/* 01's sample sessions, played by a C program that knows include/zeradok.h and nothing else. Every byte of each output and of the array is compared. */
+/* 01's sample sessions, a plan of each chip and the refusals 1 to 12, by a C program that knows include/zeradok.h and nothing else.
+ * Every byte of each output and of the array is compared. */
 #include "zeradok.h"
 
 #include <stdio.h>
 #include <string.h>
-
-_Static_assert(sizeof(zeradok_state) == 16, "state");
-_Static_assert(offsetof(zeradok_state, chip) == 0 && offsetof(zeradok_state, bp) == 1, "state");
-_Static_assert(offsetof(zeradok_state, tb) == 2 && offsetof(zeradok_state, bpl) == 3, "state");
-_Static_assert(offsetof(zeradok_state, wel) == 4 && offsetof(zeradok_state, aai) == 5, "state");
-_Static_assert(offsetof(zeradok_state, armed) == 6 && offsetof(zeradok_state, power_down) == 7, "state");
-_Static_assert(offsetof(zeradok_state, left) == 8 && offsetof(zeradok_state, next) == 12, "state");
-_Static_assert(sizeof(zeradok_answer) == 20, "answer");
-_Static_assert(offsetof(zeradok_answer, number) == 0 && offsetof(zeradok_answer, state) == 4, "answer");
-_Static_assert(sizeof(zeradok_ran) == 32, "ran");
-_Static_assert(offsetof(zeradok_ran, number) == 0 && offsetof(zeradok_ran, state) == 4, "ran");
-_Static_assert(offsetof(zeradok_ran, frames) == 20 && offsetof(zeradok_ran, microseconds) == 24, "ran");
-_Static_assert(sizeof(zeradok_planned) == 32, "planned");
-_Static_assert(offsetof(zeradok_planned, number) == 0 && offsetof(zeradok_planned, state) == 4, "planned");
-_Static_assert(offsetof(zeradok_planned, length) == 20 && offsetof(zeradok_planned, frames) == 24, "planned");
-_Static_assert(offsetof(zeradok_planned, microseconds) == 28, "planned");
-_Static_assert(sizeof(zeradok_record) == 40, "record");
-_Static_assert(offsetof(zeradok_record, number) == 0 && offsetof(zeradok_record, kind) == 4, "record");
-_Static_assert(offsetof(zeradok_record, start) == 8 && offsetof(zeradok_record, length) == 16, "record");
-_Static_assert(offsetof(zeradok_record, microseconds) == 24 && offsetof(zeradok_record, next) == 32, "record");
 
 enum { F25L008A = 8, F25L05PA = 5, LONGEST_FRAME = 4101, LONGEST_SCRIPT = 32768 };
 
@@ -163,7 +144,8 @@ static bool word_at_odd_address(void)
 
 static bool page_goes_round(void)
 {
-    return erased(F25L05PA) && silent("06") && becomes(0x00FF, 0x01) && becomes(0x0000, 0x02) && silent("02 00 00 FF 01 02");
+    return erased(F25L05PA) && silent("06") && becomes(0x00FF, 0x01) && becomes(0x0000, 0x02) && silent("02 00 00 FF 01 02")
+        && waited(1499) && status("03") && waited(1) && status("00");
 }
 
 static bool chip_erase_by_bp2(void)
@@ -209,13 +191,18 @@ static bool read_over_the_top(void)
     return ready && sent("03 00 FF FF 00 00", "FF FF FF FF 12 34");
 }
 
-/* ---- plans and scripts: 01's plan, and the script of its listing */
+/* ---- plans and scripts: 01's plan, one of a page, and the script of the listing */
 
 static const uint8_t plan[] = {
     0x5A, 0x46, 0x00, 0x01, 0x06,
     0x5A, 0x46, 0x00, 0x06, 0xAD, 0x01, 0x23, 0x44, 0xFF, 0xFE,
     0x5A, 0x57, 0x00, 0x00, 0x00, 0x07,
     0x5A, 0x46, 0x00, 0x01, 0x04,
+};
+static const uint8_t page_plan[] = {
+    0x5A, 0x46, 0x00, 0x01, 0x06,
+    0x5A, 0x46, 0x00, 0x07, 0x02, 0x00, 0x12, 0x34, 0x0F, 0xFF, 0xF0,
+    0x5A, 0x57, 0x00, 0x00, 0x05, 0xDC,
 };
 static const uint8_t listing[] = {
     0x5A, 0x46, 0x00, 0x04, 0x9F, 0x00, 0x00, 0x00,
@@ -274,6 +261,16 @@ static bool planned_word(void)
     return erased(F25L008A) && unprotected()
         && plans(0x012345, &wanted, 1, 26, (zeradok_planned){.length = 26, .frames = 3, .microseconds = 7}) && memcmp(buffer, plan, 26) == 0
         && becomes(0x012345, 0xFE) && runs_script(buffer, 26, silence, sizeof silence, 3, 7) && status("00");
+}
+
+/* the byte between doesn't change and goes along; after the run nothing is left to plan */
+static bool planned_page(void)
+{
+    const uint8_t wanted[] = {0x0F, 0xFF, 0xF0}, silence[] = {0xFF, 0xFF, 0xFF, 0xFF, 0xFF, 0xFF, 0xFF, 0xFF};
+    return erased(F25L05PA)
+        && plans(0x1234, wanted, 3, 22, (zeradok_planned){.length = 22, .frames = 2, .microseconds = 1500}) && memcmp(buffer, page_plan, 22) == 0
+        && becomes(0x1234, 0x0F) && becomes(0x1236, 0xF0) && runs_script(buffer, 22, silence, sizeof silence, 2, 1500) && status("00")
+        && plans(0x1234, wanted, 3, 0, (zeradok_planned){0});
 }
 
 static bool plan_refusals(void)
@@ -414,6 +411,7 @@ static const struct {
     {"frame of 4,101 runs, 4,102 is refused", longest_frame},
     {"05PA: read of two at FFFF", read_over_the_top},
     {"008A: plan of FE at 012345, and its run", planned_word},
+    {"05PA: plan of a page at 1234, and its run", planned_page},
     {"refusals 6 to 10 of a plan, and empty plans", plan_refusals},
     {"the listing's script, whole", listing_whole},
     {"the listing's script, record by record", listing_by_records},

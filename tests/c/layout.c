@@ -1,0 +1,45 @@
+/* The structs of include/zeradok.h lie in memory as the library has them, in C and in C++: it is compiled and never run.
+ * tests/zeradok/src/layout.rs says the same of the Rust binding. */
+#include "zeradok.h"
+
+#include <assert.h>
+
+#define SIZE(type, bytes) static_assert(sizeof(type) == (bytes), #type)
+#define FIELD(type, field, offset) static_assert(offsetof(type, field) == (offset), #type "." #field)
+
+SIZE(zeradok_state, 16);
+FIELD(zeradok_state, chip, 0);
+FIELD(zeradok_state, bp, 1);
+FIELD(zeradok_state, tb, 2);
+FIELD(zeradok_state, bpl, 3);
+FIELD(zeradok_state, wel, 4);
+FIELD(zeradok_state, aai, 5);
+FIELD(zeradok_state, armed, 6);
+FIELD(zeradok_state, power_down, 7);
+FIELD(zeradok_state, left, 8);
+FIELD(zeradok_state, next, 12);
+
+SIZE(zeradok_answer, 20);
+FIELD(zeradok_answer, number, 0);
+FIELD(zeradok_answer, state, 4);
+
+SIZE(zeradok_ran, 32);
+FIELD(zeradok_ran, number, 0);
+FIELD(zeradok_ran, state, 4);
+FIELD(zeradok_ran, frames, 20);
+FIELD(zeradok_ran, microseconds, 24);
+
+SIZE(zeradok_planned, 32);
+FIELD(zeradok_planned, number, 0);
+FIELD(zeradok_planned, state, 4);
+FIELD(zeradok_planned, length, 20);
+FIELD(zeradok_planned, frames, 24);
+FIELD(zeradok_planned, microseconds, 28);
+
+SIZE(zeradok_record, 40);
+FIELD(zeradok_record, number, 0);
+FIELD(zeradok_record, kind, 4);
+FIELD(zeradok_record, start, 8);
+FIELD(zeradok_record, length, 16);
+FIELD(zeradok_record, microseconds, 24);
+FIELD(zeradok_record, next, 32);

@@ -1,0 +1,79 @@
+//! The library's values as the model's, and back.
+
+use crate::binding;
+
+impl From<model::State> for binding::State {
+    fn from(state: model::State) -> Self {
+        Self {
+            chip: state.chip,
+            bp: state.bp,
+            tb: state.tb.into(),
+            bpl: state.bpl.into(),
+            wel: state.wel.into(),
+            aai: state.aai.into(),
+            armed: state.armed.into(),
+            power_down: state.power_down.into(),
+            left: state.left,
+            next: state.next,
+        }
+    }
+}
+
+impl From<binding::State> for model::State {
+    fn from(state: binding::State) -> Self {
+        Self {
+            chip: state.chip,
+            bp: state.bp,
+            tb: state.tb.into(),
+            bpl: state.bpl.into(),
+            wel: state.wel.into(),
+            aai: state.aai.into(),
+            armed: state.armed.into(),
+            power_down: state.power_down.into(),
+            left: state.left,
+            next: state.next,
+        }
+    }
+}
+
+impl From<binding::Answer> for model::Answer {
+    fn from(answer: binding::Answer) -> Self {
+        Self { number: answer.number, state: answer.state.into() }
+    }
+}
+
+impl From<binding::Ran> for model::Ran {
+    fn from(ran: binding::Ran) -> Self {
+        Self {
+            number: ran.number,
+            state: ran.state.into(),
+            frames: ran.frames,
+            microseconds: ran.microseconds,
+        }
+    }
+}
+
+impl From<binding::Planned> for model::Planned {
+    fn from(planned: binding::Planned) -> Self {
+        Self {
+            number: planned.number,
+            state: planned.state.into(),
+            length: planned.length,
+            frames: planned.frames,
+            microseconds: planned.microseconds,
+        }
+    }
+}
+
+impl From<binding::Record> for model::Record {
+    fn from(record: binding::Record) -> Self {
+        Self {
+            number: record.number,
+            kind: record.kind,
+            start: record.start,
+            length: record.length,
+            microseconds: record.microseconds,
+            next: record.next,
+        }
+    }
+}

@@ -1,0 +1,22 @@
+//! The binding's structs lie in memory as `tests/c/layout.c` says of the header's.
+
+use std::mem::{align_of, offset_of, size_of};
+
+use crate::binding::{Answer, Planned, Ran, Record, State};
+
+/// Fails to compile unless the struct has this size and alignment and its fields these offsets.
+macro_rules! layout {
+    ($name:ident: $size:literal, $align:literal; $($field:ident $offset:literal),*) => {
+        const _: () = {
+            assert!(size_of::<$name>() == $size);
+            assert!(align_of::<$name>() == $align);
+            $(assert!(offset_of!($name, $field) == $offset);)*
+        };
+    };
+}
+
+layout!(State: 16, 4; chip 0, bp 1, tb 2, bpl 3, wel 4, aai 5, armed 6, power_down 7, left 8, next 12);
+layout!(Answer: 20, 4; number 0, state 4);
+layout!(Ran: 32, 8; number 0, state 4, frames 20, microseconds 24);
+layout!(Planned: 32, 4; number 0, state 4, length 20, frames 24, microseconds 28);
+layout!(Record: 40, 8; number 0, kind 4, start 8, length 16, microseconds 24, next 32);
