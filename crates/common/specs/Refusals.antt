@@ -70,3 +70,8 @@ firstOf (r ∷ rs) = cond (r .1) (r .0) (firstOf rs)
 -- what is so after an accepted call (number 0), and after a refused one
 abbrev pub accepted : {A : Type 0} → ℕ → A → A → A
 accepted number new old = cond (eqb number 0) new old
+
+-- "given exactly when": each of two statements gives the other
+pub record Exactly (a b : Type 0) : Type 0 where
+  pub when : a → b
+  pub only-when : b → a

@@ -13,8 +13,7 @@ ghost use Rattle.frame.specs.Device.{device};
 ghost use Rattle.frame.specs.Call.{FrameRun, CutRun};
 ghost use Rattle.plan.specs.Update.{PlanUpdated};
 ghost use Rattle.run.specs.Script.{ScriptRun};
-ghost use Rattle.script.specs.Reader.{recordAt};
-ghost use Rattle.host.specs.Read.{recordOf};
+ghost use Rattle.host.specs.Read.{ReadAnswered};
 
 // Make a new chip.
 #[no_mangle]
@@ -107,7 +106,7 @@ pub extern "C" fn zeradok_run(
 // Read the record at an offset of a script.
 #[no_mangle]
 pub extern "C" fn zeradok_read(script: &[u8], offset: usize) -> Record
-    ensures { λ r. ⌜ r ≡ recordOf (recordAt (now (script .entry)) offset) ⌝ }
+    ensures { λ r. ⌜ ReadAnswered (now (script .entry)) offset r ⌝ }
 {
     reader::record_of(script::reader::record_at(script, offset))
 }

@@ -3,13 +3,14 @@ use mathlib.Core.Path.{_≡_}
 use mathlib.Core.Bool.{Bool, true, false, cond}
 use mathlib.Core.List.{List, [], _∷_, _++_}
 use mathlib.Core.Logic.{_⊎_}
-use Prim.Native.Nat.{ℕ, _+_, _-_}
+use Prim.Native.Nat.{ℕ, _+_, _-_, _≤_}
 use lib.ListN.{length, getD}
 use Rattle.common.specs.Lists.{mapi, within}
 use Rattle.state.specs.declared.State.{State}
 use Rattle.state.specs.State.{withWel, withArmed}
 use Rattle.state.specs.Power.{powerUp}
-use Rattle.script.specs.Record.{Record, frame, encode}
+use Rattle.state.specs.Time.{passTime}
+use Rattle.script.specs.Record.{Record, frame, wait, encode}
 use Rattle.frame.specs.Device.{Device, withState}
 use Rattle.frame.specs.Call.{frameNumber, cutNumber, cutDevice}
 use Rattle.common.specs.Bits.{Bytes, bitAt}
@@ -48,14 +49,18 @@ abbrev pub stateAfterPlan : List Record → State → State
 stateAfterPlan [] s = s
 stateAfterPlan (r ∷ rs) s = withArmed (withWel s false) false
 
--- the records run uncut on a chip leave this array, and no call on the way is refused: no frame with an output of its length, and no power-up where
--- the power might go
+-- the records run uncut on a chip leave this array, and no call on the way is refused: no frame with an output of its length, no part of a wait, and no
+-- power-up where the power might go
 pub record Completes (records : List Record) (wp : Bool) (chip : Device) (array : List ℕ) : Type 0 where
   pub array-is : run wp records chip .array ≡ array
   pub state-is : run wp records chip .state ≡ stateAfterPlan records (chip .state)
   pub frames-accepted : (before after : List Record) (f : List ℕ) → records ≡ before ++ (frame f ∷ after)
       → (output : List ℕ) → length output ≡ length f → frameNumber wp f (run wp before chip) output ≡ 0
+  pub waits-accepted : (before after : List Record) (n m : ℕ) → records ≡ before ++ (wait n ∷ after) → m ≤ n
+      → passTime (run wp before chip .state) m .number ≡ 0
   pub powers-up : (before after : List Record) → records ≡ before ++ after → powerUp (run wp before chip .state) .number ≡ 0
+  pub powers-up-in-wait : (before after : List Record) (n m : ℕ) → records ≡ before ++ (wait n ∷ after) → m ≤ n
+      → powerUp (passTime (run wp before chip .state) m .state) .number ≡ 0
 
 -- ---- a plan cut short
 
@@ -63,18 +68,25 @@ pub record Completes (records : List Record) (wp : Bool) (chip : Device) (array 
 abbrev pub powered : Device → Device
 powered chip = withState chip (powerUp (chip .state) .state)
 
+-- some of a wait has passed: the call "let n microseconds pass"
+abbrev pub waited : ℕ → Device → Device
+waited m chip = withState chip (passTime (chip .state) m .state)
+
 -- "Cut the power between any two records, or inside any programming, with any part of the bits due to fall having fallen": the chip powered up.
 -- Between: also before the first record and behind the last. Inside: the call "run an interrupted frame", for any frame, with any mask of bytes and any
--- output that the call accepts
+-- output that the call accepts. During: when m of a wait's n microseconds have passed; before the last of them the chip is still busy with the word or
+-- the page that it waits for
 pub data CutShort (records : List Record) (wp : Bool) (chip : Device) : Device → Type 0 where
   between : (before after : List Record) → records ≡ before ++ after → CutShort records wp chip (powered (run wp before chip))
   inside : (before after : List Record) (f mask output : List ℕ) → records ≡ before ++ (frame f ∷ after) → Bytes mask
       → cutNumber wp f mask (run wp before chip) output ≡ 0 → CutShort records wp chip (cutDevice wp f mask (run wp before chip) output)
+  during : (before after : List Record) (n m : ℕ) → records ≡ before ++ (wait n ∷ after) → m ≤ n
+      → CutShort records wp chip (powered (waited m (run wp before chip)))
 
--- "planning again is accepted, and that plan, run uncut, leaves the region exactly as wanted and the rest as it was"
+-- "planning again is accepted", in so much room and in any more, "and that plan, run uncut, leaves the region exactly as wanted and the rest as it was"
 pub record Recovers (plan : Planner) (wp : Bool) (array : List ℕ) (start : ℕ) (wanted : List ℕ) (room : ℕ) (chip : Device) : Type 0 where
   pub partway : Partway array start wanted (chip .array)
-  pub accepted : planRefusal (chip .state) wp (chip .array) start wanted room ≡ 0
+  pub accepted : (more : ℕ) → room ≤ more → planRefusal (chip .state) wp (chip .array) start wanted more ≡ 0
   pub completes : Completes (plan (chip .state) (chip .array) start wanted) wp chip (updated array start wanted)
 
 -- ---- demand 3

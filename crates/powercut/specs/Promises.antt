@@ -5,7 +5,7 @@ use mathlib.Core.Path.{_≡_}
 use mathlib.Core.Bool.{Bool, true, false}
 use mathlib.Core.List.{List}
 use mathlib.Core.Logic.{_⊎_}
-use Prim.Native.Nat.{ℕ, _+_, _-_}
+use Prim.Native.Nat.{ℕ, _+_, _-_, _≤_}
 use lib.ListN.{length, getD}
 use Rattle.state.specs.State.{withWel, withArmed}
 use Rattle.common.specs.Bits.{bitAt}
@@ -26,7 +26,8 @@ pub record Promises (wp : Bool) (chip : Device) (start : ℕ) (wanted : List ℕ
       → (bitAt (getD (after .array) k 0) b ≡ bitAt (getD (chip .array) k 0) b) ⊎ (bitAt (getD (after .array) k 0) b ≡ bitAt (getD wanted (k - start) 0) b)
   pub outside : (after : Device) → PowerLost wp chip start wanted after → (k : ℕ) → within start (length wanted) k ≡ false
       → getD (after .array) k 0 ≡ getD (chip .array) k 0
-  -- planned again from there, with 22 bytes more room: accepted, and that plan completes the update
-  pub again : (after : Device) → PowerLost wp chip start wanted after → planRefusal (after .state) wp (after .array) start wanted (room + 22) ≡ 0
+  -- planned again from there, with 22 bytes more room or with more than that: accepted, and that plan completes the update
+  pub again : (after : Device) → PowerLost wp chip start wanted after → (more : ℕ) → room + 22 ≤ more
+      → planRefusal (after .state) wp (after .array) start wanted more ≡ 0
   pub completed : (cut after : Device) → PowerLost wp chip start wanted cut → Finished wp cut start wanted after
       → after .array ≡ updated (chip .array) start wanted

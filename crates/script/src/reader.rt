@@ -10,7 +10,7 @@ ghost use Prim.Native.Nat.{_+_, _≤_, _<_};
 ghost use lib.ListN.{length, take, drop};
 ghost use Rattle.common.specs.Limits.{longestScript};
 ghost use Rattle.script.specs.Decode.{frontFrame, frontWait, front};
-ghost use Rattle.script.specs.Reader.{twoBytesAt, fourBytesAt, numberOf, answer, recordAt, readerNumber, framePart};
+ghost use Rattle.script.specs.Reader.{twoBytesAt, fourBytesAt, answer, framePart, Answered};
 
 // What the reader answers: the frame's place in the script or the wait, with the next offset; the end or a refusal, with the given one.
 pub enum Found {
@@ -129,8 +129,7 @@ pub fn front_at(script: &[u8], offset: usize) -> Found
 
 // The record at an offset of a script. It looks at this one record only.
 pub fn record_at(script: &[u8], offset: usize) -> Found
-    ensures answer { λ r. ⌜ r ≡ recordAt (now (script .entry)) offset ⌝ }
-    ensures number { λ r. ⌜ numberOf r ≡ readerNumber (now (script .entry)) offset ⌝ }
+    ensures { λ r. ⌜ Answered (now (script .entry)) offset r ⌝ }
 {
     if LONGEST_SCRIPT < script.len() {
         return Found::Refused {

@@ -13,12 +13,40 @@ enum Met {
     Between { chip: u8, wp_high: bool, step_1: bool },
     /// A cut inside a programming frame.
     Inside { chip: u8, wp_high: bool, step_1: bool },
+    /// A cut when some of a wait has passed.
+    During { chip: u8, wp_high: bool, step_1: bool },
+    /// One of these, by how much has passed.
+    Passed { chip: u8, part: Part },
     /// A cut, or a plan, of this sort.
     Of { chip: u8, sort: Sort },
     /// A second plan that needs all the room it is given.
     AllRoomNeeded,
     /// A second plan that has nothing left to do.
     NothingLeft,
+}
+
+/// A part of a wait.
+#[derive(Clone, Copy, Debug, PartialEq, Eq, PartialOrd, Ord)]
+pub enum Part {
+    Nothing,
+    Little,
+    Half,
+    NearlyAll,
+    All,
+}
+
+pub const PARTS: [Part; 5] = [Part::Nothing, Part::Little, Part::Half, Part::NearlyAll, Part::All];
+
+impl Part {
+    pub fn of(self, microseconds: u32) -> u32 {
+        match self {
+            Self::Nothing => 0,
+            Self::Little => 1,
+            Self::Half => microseconds / 2,
+            Self::NearlyAll => microseconds - 1,
+            Self::All => microseconds,
+        }
+    }
 }
 
 #[derive(Clone, Copy, Debug, PartialEq, Eq, PartialOrd, Ord)]
@@ -93,6 +121,12 @@ impl Tally {
         });
     }
 
+    pub fn during(&mut self, setting: &Setting, part: Part) {
+        let chip = setting.state.chip;
+        self.count(Met::During { chip, wp_high: setting.wp_high, step_1: setting.needs_step_1() });
+        self.count(Met::Passed { chip, part });
+    }
+
     pub fn again(&mut self, length: usize, room: usize) {
         if length == room {
             self.count(Met::AllRoomNeeded);
@@ -107,9 +141,11 @@ impl Tally {
         let mut all = vec![Met::AllRoomNeeded, Met::NothingLeft];
         for chip in CHIPS {
             all.extend(SORTS.map(|sort| Met::Of { chip, sort }));
+            all.extend(PARTS.map(|part| Met::Passed { chip, part }));
             for (wp_high, step_1) in [(false, false), (false, true), (true, false), (true, true)] {
                 all.push(Met::Between { chip, wp_high, step_1 });
                 all.push(Met::Inside { chip, wp_high, step_1 });
+                all.push(Met::During { chip, wp_high, step_1 });
             }
         }
         all.into_iter()

@@ -7,7 +7,7 @@ use cases::Rng;
 use model::{kind, Calls, Planned, State};
 
 use crate::setting::Setting;
-use crate::tally::Tally;
+use crate::tally::{Tally, PARTS};
 
 /// Longer than any plan's script.
 const ROOMY: usize = 27_000;
@@ -25,11 +25,23 @@ pub struct Trial<'a, C> {
     calls: PhantomData<C>,
 }
 
-/// A record of a script: where it stands, and its frame's bytes.
+/// A record of a script: where it stands, and what it is.
 struct Record {
     from: usize,
     until: usize,
-    frame: Option<(usize, usize)>,
+    what: What,
+}
+
+#[derive(Clone, Copy)]
+enum What {
+    /// Where the frame's bytes start, and how many they are.
+    Frame {
+        start: usize,
+        length: usize,
+    },
+    Wait {
+        microseconds: u32,
+    },
 }
 
 impl<'a, C: Calls> Trial<'a, C> {
@@ -61,18 +73,20 @@ impl<'a, C: Calls> Trial<'a, C> {
             let record = records.get(index);
             let edge = index == 0 || record.is_none();
             if edge || index % step == offset {
-                let so_far = self.array[self.setting.region()].to_vec();
-                let powered = C::power_up(state);
-                accepted(powered.number, "the power-up")?;
-                self.again(powered.state, script.len(), tally)
+                self.cut_here(state, script.len(), tally)
                     .map_err(|what| format!("cut before record {index}: {what}"))?;
-                self.restore(&so_far);
                 tally.between(self.setting, index, records.len());
-                if let Some((start, length)) = record.and_then(|record| record.frame) {
-                    let frame = &script[start..][..length];
-                    self.cut_inside(state, frame, script.len(), rng, tally)
-                        .map_err(|what| format!("cut inside record {index}, {what}"))?;
+                match record.map(|record| record.what) {
+                    Some(What::Frame { start, length }) => {
+                        let frame = &script[start..][..length];
+                        self.cut_inside(state, frame, script.len(), rng, tally)
+                    }
+                    Some(What::Wait { microseconds }) => {
+                        self.cut_during(state, microseconds, script.len(), rng, tally)
+                    }
+                    None => Ok(()),
                 }
+                .map_err(|what| format!("cut inside record {index}, {what}"))?;
             }
             if let Some(record) = record {
                 state = self.run(state, &script[record.from..record.until])?;
@@ -108,6 +122,46 @@ impl<'a, C: Calls> Trial<'a, C> {
             self.restore(&so_far);
             tally.inside(self.setting, programmed);
         }
+        Ok(())
+    }
+
+    /// Cuts when some of a wait has passed, two parts of it by chance: before its end the chip is
+    /// busy, and at its end it is not.
+    fn cut_during(
+        &mut self,
+        state: State,
+        microseconds: u32,
+        first_length: usize,
+        rng: &mut Rng,
+        tally: &mut Tally,
+    ) -> Result<(), String> {
+        let first = rng.below(PARTS.len());
+        for part in [PARTS[first], PARTS[(first + 2) % PARTS.len()]] {
+            let passed = part.of(microseconds);
+            let waited = C::wait(state, passed);
+            accepted(waited.number, "the wait")
+                .and_then(|()| match (waited.state.left > 0) == (passed < microseconds) {
+                    true => self.cut_here(waited.state, first_length, tally),
+                    false => Err("BUSY and the wait don't end together".into()),
+                })
+                .map_err(|what| format!("{passed} of {microseconds} us: {what}"))?;
+            tally.during(self.setting, part);
+        }
+        Ok(())
+    }
+
+    /// The power goes and comes back, and the plan is made again; the region is then put back.
+    fn cut_here(
+        &mut self,
+        state: State,
+        first_length: usize,
+        tally: &mut Tally,
+    ) -> Result<(), String> {
+        let so_far = self.array[self.setting.region()].to_vec();
+        let powered = C::power_up(state);
+        accepted(powered.number, "the power-up")?;
+        self.again(powered.state, first_length, tally)?;
+        self.restore(&so_far);
         Ok(())
     }
 
@@ -224,11 +278,11 @@ fn records<C: Calls>(script: &[u8]) -> Result<Vec<Record>, String> {
         if record.kind == kind::END {
             return Ok(records);
         }
-        records.push(Record {
-            from,
-            until: record.next,
-            frame: (record.kind == kind::FRAME).then_some((record.start, record.length)),
-        });
+        let what = match record.kind {
+            kind::FRAME => What::Frame { start: record.start, length: record.length },
+            _ => What::Wait { microseconds: record.microseconds },
+        };
+        records.push(Record { from, until: record.next, what });
         from = record.next;
     }
 }

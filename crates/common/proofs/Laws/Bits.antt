@@ -1,6 +1,7 @@
 -- Bits of a number: of `bitAnd`, `bitOr` and a byte's complement. Numbers with the same bits are equal, and "no bit rises" is `bitAnd`. Lists of bytes.
 -- Assumes nothing.
 use mathlib.Core.Path.{_≡_, refl, sym, ap, ap₂, _∙_}
+use mathlib.Core.Bool.{Bool, false, _&&_}
 use mathlib.Core.List.{List}
 use mathlib.Core.Logic.{⊎-elim}
 use Prim.Native.Nat.{ℕ, zero, suc, _+_, _-_, _*_, _/_, _%_, _^_, _<_, min, max, suc-le-suc}
@@ -8,16 +9,26 @@ use native.Mathlib.Nat.{le-of-suc-le-suc, mod-eq-of-lt, not-suc-le-zero, pow-suc
 use native.Mathlib.Numerals.{one-add}
 use native.Mathlib.Omega.{arith}
 use lib.Arith.{bin-ind, digits-mod, lt-one}
-use lib.Bits.{bitAnd, bitOr, and-step, or-step, and-shr, or-shr, and-self, and-comm, and-zero-r, and-mask}
+use lib.Bits.{bitAnd, bitOr, and-le-l, and-step, or-step, and-shr, or-shr, and-self, and-comm, and-zero-r, and-mask}
+use lib.Dec.{eqb}
 use lib.ListN.{length, getD, drop, List·getD-eq-default}
 use lib.Pow.{shr-shr}
 use lib.Seq.{getD-drop}
 use Rattle.common.specs.Bits.{bitAt, Bytes}
+use borrow.Author.Tests.{eqb-true, eqb-false}
+use Rattle.common.proofs.Laws.Booleans.{and-l, and-r, and-off}
+use Rattle.common.proofs.Laws.Choice.{cases}
 use Rattle.common.proofs.Laws.Lists.{split}
+use Rattle.common.proofs.Laws.Places.{Passing, some-passes}
 
 pub bit-lt : (x b : ℕ) → bitAt x b < 2
 unfolding bitAt
 bit-lt x b = omega arith
+
+-- a bit, by division
+pub bit-is : (x b : ℕ) → bitAt x b ≡ x / 2 ^ b % 2
+unfolding bitAt
+bit-is x b = refl
 
 -- ---- bits of the operations
 
@@ -127,6 +138,40 @@ no-rise-part old new d h = no-rise-trans old new (bitAnd new d) h (no-rise-and n
 
 pub no-rise-or : (old x y : ℕ) → NoRise old x → NoRise old y → NoRise old (bitOr x y)
 no-rise-or old x y h g = and-or x y old ∙ ap₂ bitOr h g
+
+-- a bit that is 1 in the new number of w bits and 0 in the old
+pub record Rise (w old new : ℕ) : Type 0 where
+  pub place : ℕ
+  pub below : place < w
+  pub wanted : bitAt new place ≡ 1
+  pub missing : bitAt old place ≡ 0
+
+abbrev rising : ℕ → ℕ → ℕ → Bool
+rising old new b = eqb (bitAt new b) 1 && eqb (bitAt old b) 0
+
+-- where "no bit rises" fails, one does
+pub some-rise : (w old new : ℕ) → new < 2 ^ w → (NoRise old new → ⊥) → Rise w old new
+some-rise w old new h fails = ⊎-elim (λ p. risen p) (λ none. absurd (fails (same none))) (some-passes (rising old new) w)
+  where
+    risen : Passing (rising old new) w → Rise w old new
+    risen p = record {
+      place = p .place;
+      below = p .below;
+      wanted = eqb-true (bitAt new (p .place)) 1 (and-l (eqb (bitAt new (p .place)) 1) (eqb (bitAt old (p .place)) 0) (p .passes));
+      missing = eqb-true (bitAt old (p .place)) 0 (and-r (eqb (bitAt new (p .place)) 1) (eqb (bitAt old (p .place)) 0) (p .passes));
+    }
+
+    kept : (b : ℕ) → rising old new b ≡ false → min (bitAt new b) (bitAt old b) ≡ bitAt new b
+    kept b e =
+        cases (eqb (bitAt new b) 1)
+        (λ t. let one = eqb-true (bitAt new b) 1 t in
+        let some = eqb-false (bitAt old b) 0 (and-off (eqb (bitAt new b) 1) (eqb (bitAt old b) 0) e t) in
+        omega (arith, bit-lt old b))
+        (λ t. let none = eqb-false (bitAt new b) 1 t in omega (arith, bit-lt new b))
+
+    same : ((b : ℕ) → b < w → rising old new b ≡ false) → NoRise old new
+    same none =
+        bits-ext w (bitAnd new old) new (omega (arith, and-le-l new old)) h (λ b l. bit-and new old b ∙ kept b (none b l))
 
 -- ---- lists of bytes
 

@@ -1,9 +1,9 @@
--- The laws of `within` and `countBelow`: which places are meant, and how many of them lie below one.
+-- The laws of `within` and `countBelow`: which places are meant, and how many of them lie below one. A search below a place.
 -- Assumes nothing.
 use mathlib.Core.Path.{_≡_, refl}
 use mathlib.Core.Bool.{Bool, true, false, cond}
 use mathlib.Core.List.{List}
-use mathlib.Core.Logic.{⊎-elim}
+use mathlib.Core.Logic.{⊎-elim, _⊎_, inl, inr}
 use Prim.Native.Nat.{ℕ, zero, suc, _+_, _-_, _≤_, _<_, min}
 use native.Mathlib.Nat.{eq-or-lt-of-le, le-of-suc-le-suc}
 use native.Mathlib.Numerals.{add-one}
@@ -13,6 +13,7 @@ use lib.Dec.{leb, ltb}
 use borrow.Author.Tests.{leb-true, ltb-true, le-leb, lt-leb, lt-ltb, le-ltb}
 use Rattle.common.specs.Lists.{mapi, onRun, countBelow, within}
 use Rattle.common.proofs.Laws.Booleans.{and-l, and-r, and-i}
+use Rattle.common.proofs.Laws.Choice.{cases}
 use Rattle.common.proofs.Laws.Lists.{split}
 
 -- ---- the n places from a on
@@ -72,3 +73,19 @@ count-within a n (suc k) =
     let e = count-within a n k in
     ⊎-elim (λ l. rw (within-below a n k l) (omega arith))
     (λ g. ⊎-elim (λ l. rw (within-yes a n k g l) (omega arith)) (λ l. rw (within-above a n k l) (omega arith)) (split k (a + n))) (split k a)
+
+-- ---- a search: some number below k passes the test, or none does
+
+pub record Passing (test : ℕ → Bool) (k : ℕ) : Type 0 where
+  pub place : ℕ
+  pub below : place < k
+  pub passes : test place ≡ true
+
+pub some-passes : (test : ℕ → Bool) (k : ℕ) → Passing test k ⊎ ((i : ℕ) → i < k → test i ≡ false)
+some-passes test zero = inr (λ i h. absurd (omega arith))
+some-passes test (suc k) = ⊎-elim (λ p. inl record { place = p .place; below = omega (arith, p .below); passes = p .passes }) (λ none. at none) (some-passes test k)
+  where
+    at : ((i : ℕ) → i < k → test i ≡ false) → Passing test (suc k) ⊎ ((i : ℕ) → i < suc k → test i ≡ false)
+    at none =
+        cases (test k) (λ t. inl record { place = k; below = omega arith; passes = t })
+        (λ t. inr (λ i h. ⊎-elim (λ l. none i l) (λ g. let e : i ≡ k = omega arith in rw e t) (split i k)))

@@ -9,7 +9,7 @@ use Prim.Native.Nat.{ℕ, _<_}
 use native.Mathlib.Omega.{arith}
 use lib.Dec.{ltb, eqb}
 use borrow.Author.Tests.{eqb-true, eqb-false, ltb-true}
-use Rattle.common.specs.Refusals.{firstOf}
+use Rattle.common.specs.Refusals.{firstOf, Exactly}
 use Rattle.common.proofs.Laws.Booleans.{or-none-l, or-none-r}
 use Rattle.common.proofs.Laws.Choice.{cases}
 
@@ -45,11 +45,6 @@ first-of-clear [] c = refl
 first-of-clear (r ∷ rs) c = rw (c .0) (first-of-clear rs (c .1))
 
 -- ---- one of them
-
--- each of two statements gives the other
-pub record Exactly (a b : Type 0) : Type 0 where
-  pub when : a → b
-  pub only-when : b → a
 
 abbrev pub isListed : ℕ → List (ℕ × Bool) → Bool
 isListed number [] = false

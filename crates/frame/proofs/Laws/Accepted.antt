@@ -9,10 +9,10 @@ use lib.Dec.{ltb, eqb}
 use lib.ListN.{length}
 use borrow.Author.Tests.{eqb-true, eqb-false, eq-eqb, ne-eqb, ltb-false, le-ltb, not-false}
 use Rattle.common.specs.Limits.{longestFrame}
-use Rattle.common.specs.Refusals.{wrongMask, firstOf}
+use Rattle.common.specs.Refusals.{wrongMask, firstOf, Exactly}
 use Rattle.common.proofs.Laws.Booleans.{or-none-l, or-none-r}
 use Rattle.common.proofs.Laws.Choice.{cases}
-use Rattle.common.proofs.Laws.Refusals.{Clear, clear, first-of-clear, Exactly, Given, given-exactly, first-behind, first-before}
+use Rattle.common.proofs.Laws.Refusals.{Clear, clear, first-of-clear, Given, given-exactly, first-behind, first-before}
 use Rattle.state.specs.State.{dataOf}
 use Rattle.state.specs.Soundness.{isSound}
 use Rattle.state.proofs.Laws.Soundness.{sound-of, of-sound}

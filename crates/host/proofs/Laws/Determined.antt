@@ -9,7 +9,6 @@ use Rattle.state.specs.declared.Answer.{Answer}
 use Rattle.state.specs.Power.{newChip, powerUp}
 use Rattle.state.specs.Time.{passTime}
 use Rattle.state.proofs.Laws.Determined.{new-chip-determined, power-up-determined, pass-time-determined}
-use Rattle.script.specs.Reader.{recordAt}
 use Rattle.frame.specs.Device.{Device}
 use Rattle.frame.specs.Call.{FrameRun, CutRun}
 use Rattle.frame.proofs.Laws.Determined.{run-frame-determined, run-cut-frame-determined}
@@ -19,7 +18,7 @@ use Rattle.run.proofs.Laws.Script.{run-script-determined}
 use Rattle.plan.specs.declared.Planned.{Planned}
 use Rattle.plan.specs.Update.{PlanUpdated}
 use Rattle.plan.proofs.Laws.Update.{plan-update-determined}
-use Rattle.host.specs.Read.{recordOf}
+use Rattle.host.specs.Read.{ReadAnswered}
 use Rattle.host.specs.declared.reader.Record.{Record}
 
 pub zeradok-new-determined : (chip : ℕ) (a b : Answer) → a ≡ newChip chip → b ≡ newChip chip → a ≡ b
@@ -43,8 +42,8 @@ pub zeradok-run-determined : (wp : Bool) (script : List ℕ) (d : Device) (outpu
 zeradok-run-determined = run-script-determined
 
 pub zeradok-read-determined : (script : List ℕ) (offset : ℕ) (a b : Record)
-    → a ≡ recordOf (recordAt script offset) → b ≡ recordOf (recordAt script offset) → a ≡ b
-zeradok-read-determined script offset a b p q = p ∙ sym q
+    → ReadAnswered script offset a → ReadAnswered script offset b → a ≡ b
+zeradok-read-determined script offset a b p q = p .answer-is ∙ sym (q .answer-is)
 
 -- the two calls on a lent state: the number returned, the chip left and the output
 module _ (wp : Bool) (f : List ℕ) (d : Device) (output : List ℕ) (number number′ : ℕ) (after after′ : Device) (out out′ : List ℕ) where

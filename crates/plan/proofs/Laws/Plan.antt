@@ -21,7 +21,7 @@ use Rattle.script.specs.Measure.{measureOf}
 use Rattle.region.proofs.Laws.Region.{changes-before, changes-behind}
 use Rattle.plan.proofs.Laws.Steps.{free-not-needed, status-fits, status-le, measure-status, program-fits, program-le, program-none, program-unchanged}
 use Rattle.plan.specs.Plan.{stepOneNeeded, statusRecords, statusStep, programStep, planRecords, withStatusSteps}
-use Rattle.common.proofs.Laws.Refusals.{Exactly}
+use Rattle.common.specs.Refusals.{Exactly}
 
 -- nothing before, between and behind
 middle-none : (rs ss ts : List Record) → rs ++ (ss ++ ts) ≡ [] → ss ≡ []

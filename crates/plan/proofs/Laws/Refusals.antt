@@ -9,10 +9,10 @@ use native.Mathlib.Omega.{arith}
 use lib.Dec.{ltb, eqb}
 use lib.ListN.{length}
 use borrow.Author.Tests.{lt-ltb, le-ltb, eq-eqb, ltb-false, eqb-true, not-false}
-use Rattle.common.specs.Refusals.{statusLocked, bufferTooShort, firstOf}
+use Rattle.common.specs.Refusals.{statusLocked, bufferTooShort, firstOf, Exactly}
 use Rattle.common.proofs.Laws.Booleans.{or-none-l, or-none-r}
 use Rattle.common.proofs.Laws.Lists.{split}
-use Rattle.common.proofs.Laws.Refusals.{Clear, clear, Exactly, Given, given-exactly, first-behind, first-before}
+use Rattle.common.proofs.Laws.Refusals.{Clear, clear, Given, given-exactly, first-behind, first-before}
 use Rattle.script.specs.Record.{encode}
 use Rattle.state.specs.declared.State.{State}
 use Rattle.state.specs.State.{dataOf}

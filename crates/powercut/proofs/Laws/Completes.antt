@@ -9,8 +9,10 @@ use lib.ListN.{length}
 use Rattle.common.proofs.Laws.Lists.{split}
 use Rattle.common.proofs.Laws.Places.{within-above}
 use Rattle.state.specs.declared.State.{State}
+use Rattle.state.proofs.Laws.Passed.{pass-time-granted}
 use Rattle.state.proofs.Laws.Power.{power-up-granted}
 use Rattle.state.proofs.Laws.Soundness.{sound-of}
+use Rattle.state.proofs.Laws.Time.{time-passed-sound}
 use Rattle.common.specs.Bits.{Bytes}
 use Rattle.frame.specs.Device.{Device}
 use Rattle.frame.proofs.Laws.Accepted.{accepted-number}
@@ -47,5 +49,9 @@ module _ (given : Device) (bp : ℕ) (wel armed : Bool) (wp : Bool) (start : ℕ
         state-is = ran .ends;
         frames-accepted = λ before after f e output same.
             accepted-number wp f (run wp before chip) output (frame-accepted-among wp before after f chip (rw e at (plan-fits s array start wanted)) ready output same);
+        waits-accepted = λ before after n m e l. rw (pass-time-granted _ m (run-ready wp before chip ready .sound)) refl;
         powers-up = λ before after e. rw (power-up-granted _ (run-ready wp before chip ready .sound)) refl;
+        powers-up-in-wait = λ before after n m e l.
+            let sound = run-ready wp before chip ready .sound in
+            rw (pass-time-granted _ m sound, power-up-granted _ (time-passed-sound _ m sound)) refl;
       }

@@ -1,5 +1,5 @@
 -- Wrong readings that demand 3 turns away, each by a chip, a plan and a cut: a planner with an empty script, one without step 1, one that sends a byte
--- outside the region as 00; a mask that takes the data's bit and not the new byte's; a power-up that keeps AAI.
+-- outside the region as 00; a mask that takes the data's bit and not the new byte's; a power-up that keeps AAI, and one that keeps BUSY.
 -- Assumes nothing.
 use mathlib.Core.Path.{_≡_, refl, sym, _∙_}
 use mathlib.Core.Bool.{Bool, true, false, cond}
@@ -7,16 +7,16 @@ use mathlib.Core.List.{List, [], _∷_}
 use Prim.Native.Nat.{ℕ, _-_, _*_, _/_, _<_}
 use native.Mathlib.Omega.{arith}
 use lib.ListN.{length, getD}
-use Rattle.common.specs.Refusals.{stateNotSound}
+use Rattle.common.specs.Refusals.{stateNotSound, notAtRest}
 use Rattle.common.specs.Lists.{mapi, within}
 use Rattle.common.proofs.Laws.Lists.{getD-mapi}
 use Rattle.state.specs.declared.State.{State}
 use Rattle.chip.specs.Chip.{isKnown, chipOf, kindOf}
-use Rattle.state.specs.State.{dataOf, withAai}
+use Rattle.state.specs.State.{dataOf, withLeft, withWel, withAai}
 use Rattle.state.specs.Protection.{firstProtected}
-use Rattle.state.specs.Power.{atRest, newState, poweredUp}
+use Rattle.state.specs.Power.{atRest, newState, stateRefusal, poweredUp}
 use Rattle.state.specs.Soundness.{isSound}
-use Rattle.state.specs.Time.{cycleEnded, timePassed}
+use Rattle.state.specs.Time.{cycleEnded, timePassed, passTime}
 use Rattle.command.specs.Command.{address, writable, byKind, inAai, commandOf}
 use Rattle.registers.specs.Registers.{stateAfter}
 use Rattle.script.specs.Record.{Record, frame, wait}
@@ -36,6 +36,7 @@ use Rattle.powercut.specs.PowerCut.{Planner, updated, Partway, Completes
 use Rattle.powercut.proofs.Laws.States.{standing}
 use Rattle.powercut.proofs.Laws.Region.{updated-at}
 use Rattle.powercut.proofs.Laws.Samples.{fe, wordPlan}
+use Rattle.run.proofs.Laws.Run.{run-array-length}
 use Rattle.run.proofs.Laws.Trace.{stateBehind, byteBehind, traced}
 
 -- a byte of the updated array
@@ -80,9 +81,16 @@ cutByData e f mask k x = cond (touches e k) (mixed (getD mask (maskPlace e k) 0)
 abbrev pub aaiKept : State → State
 aaiKept s = withAai (poweredUp s) (s .aai) (s .next)
 
--- the plan's word, and its first three records: behind them the chip is in AAI
+-- and one that keeps BUSY: the write cycle goes on
+abbrev pub busyKept : State → State
+busyKept s = withWel (withLeft (poweredUp s) (s .left)) (s .wel)
+
+-- the plan's word, its first two records: behind them the chip is busy; and its first three: behind them it is in AAI
 abbrev wordFrame : List ℕ
 wordFrame = 0xad ∷ 0x01 ∷ 0x23 ∷ 0x44 ∷ 0xff ∷ 0xfe ∷ []
+
+abbrev sent : List Record
+sent = frame (0x06 ∷ []) ∷ frame wordFrame ∷ []
 
 abbrev begun : List Record
 begun = frame (0x06 ∷ []) ∷ frame wordFrame ∷ wait 7 ∷ []
@@ -109,6 +117,11 @@ module _ (wp : Bool) where
   aai-unsound : (array : List ℕ) (room : ℕ) → planRefusal (aaiKept (stateBehind wp begun (atRest 8 0 false false))) wp array 0x12345 fe room ≡ stateNotSound
   unfolding planRefusal isSound isKnown poweredUp newState chipOf firstProtected commandOf byKind kindOf stateAfter timePassed cycleEnded writable address
   aai-unsound array room = refl
+
+  still-busy : (array : List ℕ) (room : ℕ) → length array ≡ 1048576
+      → planRefusal (busyKept (passTime (stateBehind wp sent (atRest 8 0 false false)) 3 .state)) wp array 0x12345 fe room ≡ notAtRest
+  unfolding planRefusal passTime stateRefusal isSound isKnown poweredUp newState chipOf firstProtected commandOf byKind kindOf stateAfter timePassed cycleEnded writable address
+  still-busy array room sized = rw sized refl
 
   module _ (given : Device) (array : List ℕ) (sized : length array ≡ 1048576) (byte : getD array 0x12345 0 ≡ 0xff) where
     -- a new chip, and one whose protection is off
@@ -160,3 +173,9 @@ module _ (wp : Bool) where
     pub aai-kept : (room : ℕ)
         → planRefusal (aaiKept (run wp begun unprotected .state)) wp (run wp begun unprotected .array) 0x12345 fe room ≡ stateNotSound
     aai-kept room = rw (traced wp begun unprotected .state-is) (aai-unsound (run wp begun unprotected .array) room)
+
+    -- power-up keeps BUSY: cut when 3 of the wait's 7 microseconds have passed, planning again is refused, whatever the room
+    pub busy-kept : (room : ℕ)
+        → planRefusal (busyKept (passTime (run wp sent unprotected .state) 3 .state)) wp (run wp sent unprotected .array) 0x12345 fe room ≡ notAtRest
+    busy-kept room =
+        rw (traced wp sent unprotected .state-is) (still-busy (run wp sent unprotected .array) room (run-array-length wp sent unprotected ∙ sized))

@@ -9,8 +9,10 @@ use Rattle.state.specs.declared.State.{State}
 use Rattle.state.specs.declared.Answer.{Answer}
 use Rattle.state.specs.Soundness.{Sound}
 use Rattle.state.specs.Power.{poweredUp}
+use Rattle.state.specs.Time.{timePassed}
+use Rattle.state.proofs.Laws.Passed.{pass-time-granted}
 use Rattle.state.proofs.Laws.Soundness.{sound-of}
-use Rattle.script.specs.Record.{Record, frame}
+use Rattle.script.specs.Record.{Record, frame, wait}
 use Rattle.script.proofs.Laws.Decode.{decode-encode}
 use Rattle.frame.specs.Device.{Device, withState}
 use Rattle.frame.specs.Ran.{maskWanted, tornDevice}
@@ -25,9 +27,9 @@ use Rattle.plan.specs.Plan.{planRecords}
 use Rattle.plan.specs.Refusals.{planRefusal, Accepted}
 use Rattle.plan.proofs.Laws.Plan.{plan-fits}
 use Rattle.plan.proofs.Laws.Refusals.{accepted-of}
-use Rattle.powercut.specs.PowerCut.{Planner, scriptRecords, stateAfterPlan, powered, CutShort, between, inside, Recovers, PowerCutSafe}
+use Rattle.powercut.specs.PowerCut.{Planner, scriptRecords, stateAfterPlan, powered, CutShort, between, inside, during, Recovers, PowerCutSafe}
 use Rattle.powercut.proofs.Laws.States.{standing, rest, is-rest}
-use Rattle.powercut.proofs.Laws.Safe.{Task, torn, always-between, always-inside}
+use Rattle.powercut.proofs.Laws.Safe.{Task, torn, safe-in-time, always-between, always-inside}
 use Rattle.powercut.proofs.Laws.Run.{Ran}
 use Rattle.state.proofs.Laws.Power.{power-up-granted}
 use Rattle.powercut.proofs.Laws.Completes.{completes}
@@ -62,6 +64,12 @@ module _ (given : Device) (bp : ℕ) (wel armed : Bool) (wp : Bool) (start : ℕ
       let cut = cut-accepted wp f met output mask (cut-number-accepted wp f met output mask good) record { device-is = refl; output-is = refl } .device-is in
       rw (← cut, torn-is wp f met mask)
       (recovers given bp wel armed wp start wanted room bytes accepted (torn t f mask met) (always-inside t rs ss f chip (rw e at (ran .always)) mask masked))
+  after-cut after (during rs ss n m e part) =
+      let met : Device = run wp rs chip in
+      let safe = always-between t rs (wait n ∷ ss) chip (rw e at (ran .always)) in
+      let then = safe-in-time t m met safe in
+      rw (pass-time-granted (met .state) m (safe .sound), powered-is (withState met (timePassed (met .state) m)) (then .sound))
+      (recovers given bp wel armed wp start wanted room bytes accepted (withState met (timePassed (met .state) m)) then)
 
   safe-at-rest : PowerCutSafe planRecords wp chip start wanted room
   safe-at-rest = record { uncut = completes given bp wel armed wp start wanted room bytes accepted; cut = after-cut }

@@ -4,7 +4,7 @@ use mathlib.Core.Path.{_≡_, refl, ap, _∙_}
 use mathlib.Core.Bool.{Bool, true, false}
 use mathlib.Core.List.{List, [], _∷_}
 use mathlib.Core.Logic.{_⊎_, inl, inr, ⊎-elim}
-use Prim.Native.Nat.{ℕ, _-_}
+use Prim.Native.Nat.{ℕ, _+_, _-_, _≤_}
 use lib.ListN.{length, getD}
 use Rattle.common.proofs.Laws.Choice.{cases}
 use Rattle.state.specs.declared.State.{State}
@@ -13,8 +13,10 @@ use Rattle.script.specs.Record.{Record}
 use Rattle.common.specs.Bits.{Bytes, bitAt}
 use Rattle.frame.specs.Device.{Device}
 use Rattle.common.specs.Lists.{within}
+use Rattle.plan.specs.declared.Planned.{Planned}
 use Rattle.plan.specs.Plan.{planRecords}
 use Rattle.plan.specs.Refusals.{planRefusal}
+use Rattle.plan.specs.Update.{PlanUpdated}
 use Rattle.powercut.specs.PowerCut.{stateAfterPlan, Finished, PowerLost}
 use Rattle.powercut.specs.Promises.{Promises}
 use Rattle.powercut.proofs.Laws.PowerCut.{power-cut-safe}
@@ -36,7 +38,7 @@ promises-kept wp chip start wanted room bytes e =
       kept-length = λ after c. safe .cut after c .partway .same-length;
       bits = λ after c. safe .cut after c .partway .region;
       outside = λ after c. safe .cut after c .partway .outside;
-      again = λ after c. safe .cut after c .accepted;
+      again = λ after c more enough. safe .cut after c .accepted more enough;
       completed = λ cut after c f. ap (λ (d : Device). d .array) f ∙ safe .cut cut c .completes .array-is;
     }
 
@@ -51,3 +53,9 @@ unwanted-bit-stays {wp} {chip} {start} {wanted} {room} p after c k b same =
     cases (within start (length wanted) k)
     (λ i. ⊎-elim (λ e. e) (λ e. e ∙ same i) (p .bits after c k b i))
     (λ i. ap (λ (x : ℕ). bitAt x b) (p .outside after c k i))
+
+-- planned again in a buffer of 22 bytes more or of more than that, by the call: accepted
+pub planned-again : {wp : Bool} {chip : Device} {start : ℕ} {wanted : List ℕ} {room : ℕ} → Promises wp chip start wanted room
+    → (cut : Device) → PowerLost wp chip start wanted cut → {buffer after : List ℕ} {planned : Planned}
+    → PlanUpdated (cut .state) wp (cut .array) start wanted buffer after planned → room + 22 ≤ length buffer → planned .number ≡ 0
+planned-again p cut lost {buffer} plans enough = plans .number ∙ p .again cut lost (length buffer) enough

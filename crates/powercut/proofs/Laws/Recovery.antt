@@ -1,10 +1,11 @@
--- A chip that a cut has met, powered up: planning again is accepted with 22 bytes more room, and that plan completes the update.
+-- A chip that a cut has met, powered up: planning again is accepted with 22 bytes more room or more than that, and that plan completes the update.
 -- Assumes nothing.
 use mathlib.Core.Path.{_≡_, refl, _∙_}
 use mathlib.Core.Bool.{Bool, true, false, not, _&&_}
 use mathlib.Core.List.{List}
 use mathlib.Core.Logic.{_⊎_, inl, inr, ⊎-elim}
 use Prim.Native.Nat.{ℕ, _+_, _≤_, _<_}
+use native.Mathlib.Nat.{le-refl}
 use native.Mathlib.Omega.{arith}
 use lib.ListN.{length}
 use Rattle.common.proofs.Laws.Choice.{cases}
@@ -93,8 +94,8 @@ module _ (given : Device) (bp : ℕ) (wel armed : Bool) (wp : Bool) (start : ℕ
         (λ needed. off (stepOneNeeded again now start wanted) (woken .bpl) (not wp) (rw (e .1, safe .held .same-bpl) (rw needed at (accepted .writable))))
         (λ needed. rw (free-not-needed again now start wanted (λ k c. free-again k needed (e .0) c)) refl)) (woken .lock)
 
-    accepted-again : Accepted again wp now start wanted (room + 22)
-    accepted-again = record {
+    accepted-again : (more : ℕ) → room + 22 ≤ more → Accepted again wp now start wanted more
+    accepted-again more enough = record {
       region = record {
         sound = of-sound again (rw (woken .is) at (powered-up-sound (d .state) (safe .sound)));
         sized = safe .near .same-length ∙ rw (safe .held .same-chip) (accepted .region .sized);
@@ -114,7 +115,8 @@ module _ (given : Device) (bp : ℕ) (wel armed : Bool) (wp : Bool) (start : ℕ
         rw (woken .is)
         record {
           partway = partway array start wanted bytes now (safe .near) fits;
-          accepted = of-accepted again now start wanted wp (room + 22) accepted-again;
+          accepted = λ more enough. of-accepted again now start wanted wp more (accepted-again more enough);
           completes = rw (← (updated-same array start wanted bytes now (safe .near)))
-              (completes (standing d again now) (woken .bp) false false wp start wanted (room + 22) (near-bytes array (wantedAt start wanted) now (safe .near) bytes) accepted-again);
+              (completes (standing d again now) (woken .bp) false false wp start wanted (room + 22) (near-bytes array (wantedAt start wanted) now (safe .near) bytes)
+              (accepted-again (room + 22) (le-refl (room + 22))));
         }

@@ -4,14 +4,21 @@
 use mathlib.Core.Path.{_≡_}
 use mathlib.Core.Bool.{Bool}
 use mathlib.Core.List.{List, [], _∷_, _++_}
-use mathlib.Core.Logic.{_⊎_}
+use mathlib.Core.Logic.{_⊎_, ⊎-elim}
 use Prim.Native.Nat.{ℕ}
+use native.Mathlib.Omega.{arith}
 use Rattle.common.specs.Lists.{mapi}
+use Rattle.common.proofs.Laws.Choice.{cases}
+use Rattle.common.proofs.Laws.Lists.{split}
 use Rattle.state.specs.declared.State.{State}
+use Rattle.state.specs.Protection.{firstProtected}
 use Rattle.state.specs.Soundness.{Sound}
+use Rattle.state.specs.Time.{timePassed}
+use Rattle.state.proofs.Laws.Passed.{time-goes-on, time-idle, time-ends, time-ends-in-aai, time-ends-aai}
+use Rattle.state.proofs.Laws.Time.{time-passed-sound}
 use Rattle.script.specs.Record.{Record, frame, wait}
 use Rattle.effect.specs.Cut.{cut}
-use Rattle.frame.specs.Device.{Device}
+use Rattle.frame.specs.Device.{Device, withState}
 use Rattle.frame.specs.Ran.{effectAt, stateAt}
 use Rattle.common.specs.Bits.{Bytes}
 use Rattle.run.specs.Run.{step, run}
@@ -36,12 +43,31 @@ pub record Held (given : State) (chip bp : ℕ) (tb bpl : Bool) : Type 0 where
 abbrev pub HeldBy : State → State → Type 0
 HeldBy given s = Held given (s .chip) (s .bp) (s .tb) (s .bpl)
 
+-- "Time changes nothing else": however a cycle goes on or ends, the protection bits stay
+held-in-time : (given s : State) (n : ℕ) → HeldBy given s → HeldBy given (timePassed s n)
+held-in-time given s n held =
+    ⊎-elim (λ on. rw (time-goes-on s n on) held)
+    (λ over. ⊎-elim
+    (λ busy. cases (s .aai)
+    (λ a. ⊎-elim (λ h. rw (time-ends-in-aai s n busy over a h) held) (λ h. rw (time-ends-aai s n busy over a h) held) (split (s .next) (firstProtected s)))
+    (λ a. rw (time-ends s n busy over a) held))
+    (λ idle. rw (time-idle s n (omega arith)) held) (split 0 (s .left)))
+    (split n (s .left))
+
 module _ (t : Task) where
   -- what a cut may meet: the array is on its way
   pub record Safe (d : Device) : Type 0 where
     pub sound : Sound (d .state)
     pub held : HeldBy (t .chip .state) (d .state)
     pub near : Near (t .chip .array) (t .want) (d .array)
+
+  -- and so it is when some time has passed
+  pub safe-in-time : (n : ℕ) (d : Device) → Safe d → Safe (withState d (timePassed (d .state) n))
+  safe-in-time n d h = record {
+    sound = time-passed-sound (d .state) n (h .sound);
+    held = held-in-time (t .chip .state) (d .state) n (h .held);
+    near = h .near;
+  }
 
   -- an interrupted frame, before the power is back
   abbrev pub torn : List ℕ → List ℕ → Device → Device

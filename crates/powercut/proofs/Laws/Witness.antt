@@ -1,9 +1,9 @@
 -- Demand 3 speaks of something, and its 22 bytes are needed: accepted plans on both chips, with step 1 and without it, each in a buffer of exactly
--- its length; and a cut after which 21 bytes more are too few.
+-- its length; a cut in a wait of each that finds the chip busy; and a cut after which 21 bytes more are too few.
 -- Assumes nothing.
 use mathlib.Core.Path.{_≡_, refl}
 use mathlib.Core.Bool.{Bool, true, false}
-use mathlib.Core.List.{List, []}
+use mathlib.Core.List.{List, [], _∷_, _++_}
 use Prim.Native.Nat.{ℕ, _+_, _<_}
 use native.Mathlib.Omega.{arith}
 use lib.ListN.{length, getD}
@@ -12,18 +12,22 @@ use Rattle.common.specs.Bits.{Bytes}
 use Rattle.common.specs.Lists.{tab, within}
 use Rattle.common.proofs.Laws.Lists.{length-tab, getD-tab}
 use Rattle.state.specs.declared.State.{State}
-use Rattle.chip.specs.Chip.{isKnown, chipOf}
+use Rattle.chip.specs.Chip.{isKnown, chipOf, kindOf}
 use Rattle.state.specs.Protection.{firstProtected}
 use Rattle.state.specs.Power.{atRest, newState, stateRefusal, poweredUp, powerUp}
 use Rattle.state.specs.Soundness.{isSound}
-use Rattle.script.specs.Record.{encodeRecord, encode}
+use Rattle.state.specs.Time.{timePassed, passTime}
+use Rattle.command.specs.Command.{address, writable, byKind, commandOf}
+use Rattle.registers.specs.Registers.{stateAfter}
+use Rattle.script.specs.Record.{Record, frame, wait, encodeRecord, encode}
 use Rattle.common.proofs.Laws.Bits.{bytes-within}
 use Rattle.frame.specs.Device.{Device}
 use Rattle.run.specs.Run.{run}
+use Rattle.run.proofs.Laws.Trace.{stateBehind, traced}
 use Rattle.region.specs.Region.{wantedAt, changes, rises, anyOf}
 use Rattle.plan.specs.Plan.{stepOneNeeded, planRecords}
 use Rattle.plan.specs.Refusals.{planRefusal}
-use Rattle.powercut.specs.PowerCut.{CutShort, between, PowerCutSafe}
+use Rattle.powercut.specs.PowerCut.{powered, waited, CutShort, between, during, PowerCutSafe}
 use Rattle.powercut.proofs.Laws.States.{standing}
 use Rattle.powercut.proofs.Laws.PowerCut.{power-cut-safe}
 use Rattle.powercut.proofs.Laws.Samples.{fe}
@@ -86,6 +90,57 @@ pub safe-05pa : (given : Device) → PowerCutSafe planRecords true (standing giv
 safe-05pa given =
     power-cut-safe true (standing given (atRest 5 0 false false) (erased 65536)) 0x1234 fe 20 (erased-bytes 65536)
     (page-open true (erased 65536) (erased-length 65536) (erased-at 65536 0x1234 (omega arith)) .enough)
+
+-- ---- a cut in a wait
+
+-- the plan waits n microseconds; m into it so many are left of the write cycle, and there the power is cut
+pub record CutInWait (wp : Bool) (chip : Device) (start : ℕ) (wanted : List ℕ) (n m left : ℕ) : Type 0 where
+  pub before : List Record
+  pub after : List Record
+  pub there : planRecords (chip .state) (chip .array) start wanted ≡ before ++ (wait n ∷ after)
+  pub busy : passTime (run wp before chip .state) m .state .left ≡ left
+  pub cut : CutShort (planRecords (chip .state) (chip .array) start wanted) wp chip (powered (waited m (run wp before chip)))
+
+-- the two frames before a plan's wait
+abbrev wordBegun : List Record
+wordBegun = frame (0x06 ∷ []) ∷ frame (0xad ∷ 0x01 ∷ 0x23 ∷ 0x44 ∷ 0xff ∷ 0xfe ∷ []) ∷ []
+
+abbrev pageBegun : List Record
+pageBegun = frame (0x06 ∷ []) ∷ frame (0x02 ∷ 0x00 ∷ 0x12 ∷ 0x34 ∷ 0xfe ∷ []) ∷ []
+
+module _ (wp : Bool) where
+  word-busy : passTime (stateBehind wp wordBegun (atRest 8 0 false false)) 3 .state .left ≡ 4
+  unfolding passTime stateRefusal isSound isKnown chipOf firstProtected commandOf byKind kindOf stateAfter timePassed writable address
+  word-busy = refl
+
+  page-busy : passTime (stateBehind wp pageBegun (atRest 5 0 false false)) 1000 .state .left ≡ 500
+  unfolding passTime stateRefusal isSound isKnown chipOf firstProtected commandOf byKind kindOf stateAfter timePassed writable address
+  page-busy = refl
+
+  module _ (given : Device) (array : List ℕ) where
+    pub word-cut-in-wait : getD array 0x12345 0 ≡ 0xff → CutInWait wp (standing given (atRest 8 0 false false) array) 0x12345 fe 7 3 4
+    word-cut-in-wait byte =
+        let chip : Device = standing given (atRest 8 0 false false) array in
+        let is = Samples.words-open array byte in
+        record {
+          before = wordBegun;
+          after = frame (0x04 ∷ []) ∷ [];
+          there = is;
+          busy = rw (traced wp wordBegun chip .state-is) word-busy;
+          cut = during wordBegun (frame (0x04 ∷ []) ∷ []) 7 3 is (omega arith);
+        }
+
+    pub page-cut-in-wait : getD array 0x1234 0 ≡ 0xff → CutInWait wp (standing given (atRest 5 0 false false) array) 0x1234 fe 1500 1000 500
+    page-cut-in-wait byte =
+        let chip : Device = standing given (atRest 5 0 false false) array in
+        let is = Samples.page-open array byte in
+        record {
+          before = pageBegun;
+          after = [];
+          there = is;
+          busy = rw (traced wp pageBegun chip .state-is) page-busy;
+          cut = during pageBegun [] 1500 1000 is (omega arith);
+        }
 
 -- ---- 21 bytes more are too few
 

@@ -8,9 +8,9 @@ use lib.Dec.{ltb, eqb}
 use lib.ListN.{length}
 use borrow.Author.Tests.{eqb-true, eq-eqb, ltb-true, ltb-false, le-ltb, not-false}
 use Rattle.common.specs.Limits.{longestScript}
-use Rattle.common.specs.Refusals.{wrongOutput}
+use Rattle.common.specs.Refusals.{wrongOutput, Exactly}
 use Rattle.common.proofs.Laws.Choice.{cases}
-use Rattle.common.proofs.Laws.Refusals.{Clear, clear, first-of-clear, Exactly, Given, given-exactly}
+use Rattle.common.proofs.Laws.Refusals.{Clear, clear, first-of-clear, Given, given-exactly}
 use Rattle.state.specs.State.{dataOf}
 use Rattle.state.specs.Soundness.{isSound, Sound}
 use Rattle.state.proofs.Laws.Soundness.{sound-of, of-sound}

@@ -2,7 +2,7 @@
 -- Assumes nothing.
 use mathlib.Core.Path.{_≡_, refl, sym, ap, _∙_}
 use mathlib.Core.List.{List, [], _∷_}
-use Prim.Native.Nat.{ℕ, _+_, _≤_, _<_}
+use Prim.Native.Nat.{ℕ, _+_, _≤_}
 use native.Mathlib.Omega.{arith}
 use lib.Dec.{ltb}
 use lib.ListN.{length, take, drop, length-drop}
@@ -11,12 +11,12 @@ use Rattle.common.proofs.Laws.Choice.{cond-elim}
 use Rattle.script.specs.Record.{Record, frame, wait, recordLength}
 use Rattle.common.specs.Limits.{longestScript}
 use Rattle.script.specs.Decode.{Fault, faultNumber, Front, end, item, malformed, front, Decoded, records, badAt, followed, decode}
-use Rattle.script.specs.Reader.{numberOf, nextOf, partOf, answer, recordAt, framePart}
+use Rattle.script.specs.Answers.{numberOf}
+use Rattle.script.specs.Reader.{answer, recordAt}
 use Rattle.script.specs.declared.reader.Found.{Found}
 use Rattle.script.specs.declared.reader.Found.the-variants.{Frame, Wait, End, Refused}
 use Rattle.script.proofs.Laws.Front.{front-item}
 use Rattle.script.proofs.Laws.Decode.{decode-end, decode-item, decode-malformed}
-use Rattle.script.proofs.Laws.Reader.{record-at-inside}
 
 -- the record r stands at an offset, and next is the offset behind it
 pub record Stands (script : List ℕ) (offset : ℕ) (r : Record) (next : ℕ) : Type 0 where
@@ -55,7 +55,7 @@ stands-first {script} {offset} {next} {r} {left} t e = by-decoded (decode (drop 
     by-decoded (badAt fault at) q h = let z : _≡_ {A = ℕ} 0 1 = cc in absurd (omega arith)
 
 -- the bytes of a frame that stands at an offset
-frame-bytes : (script : List ℕ) (offset : ℕ) {bytes rest : List ℕ} → front (drop offset script) ≡ item (frame bytes) rest
+pub frame-bytes : (script : List ℕ) (offset : ℕ) {bytes rest : List ℕ} → front (drop offset script) ≡ item (frame bytes) rest
     → take (length bytes) (drop (offset + 4) script) ≡ bytes
 frame-bytes script offset {bytes} e =
     rw (← drop-drop 4 offset script) (sym (front-item (drop offset script) e .body))
@@ -107,28 +107,3 @@ answer-told script offset found e =
   where
     Accepted : Found → Type 0
     Accepted given = numberOf given ≡ 0 → Told script offset given
-
--- a frame's part is the frame
-pub frame-part-is-frame : (script : List ℕ) (offset : ℕ) {bytes rest : List ℕ} → length script ≤ longestScript
-    → front (drop offset script) ≡ item (frame bytes) rest → framePart script offset ≡ bytes
-unfolding framePart
-frame-part-is-frame script offset short e =
-    let s = stands script offset e in
-    ap (partOf script) (record-at-inside script offset short (omega (arith, s .inside, s .least)) ∙ ap (answer offset) e)
-    ∙ frame-bytes script offset e
-
--- "its refusal returns an empty part and the given offset"
-abbrev pub GivesBack : List ℕ → ℕ → Found → Type 0
-GivesBack script offset found = 0 < numberOf found → (partOf script found ≡ []) × (nextOf found ≡ offset)
-
-pub refusal-gives-back : (script : List ℕ) (offset : ℕ) → GivesBack script offset (recordAt script offset)
-unfolding recordAt
-refusal-gives-back script offset =
-    cond-elim (GivesBack script offset) (ltb longestScript (length script)) (λ _ _. (refl, refl))
-    (λ _. cond-elim (GivesBack script offset) (ltb (length script) offset) (λ _ _. (refl, refl)) (λ _. by-front (front (drop offset script))))
-  where
-    by-front : (f : Front) → GivesBack script offset (answer offset f)
-    by-front end h = (refl, refl)
-    by-front (item (frame bytes) rest) h = absurd (omega arith)
-    by-front (item (wait microseconds) rest) h = absurd (omega arith)
-    by-front (malformed fault) h = (refl, refl)

@@ -38,7 +38,7 @@ pub body-whole : (n : ℕ) (rest : List ℕ) → ltb n 1 || ltb longestFrame n �
 unfolding frontBody
 body-whole n rest right h = sym (no _ right (no _ (le-ltb (length rest) n h) refl))
 
-right-length : (n : ℕ) → 1 ≤ n → n ≤ longestFrame → ltb n 1 || ltb longestFrame n ≡ false
+pub right-length : (n : ℕ) → 1 ≤ n → n ≤ longestFrame → ltb n 1 || ltb longestFrame n ≡ false
 right-length n least most = rw (le-ltb n 1 least) (le-ltb longestFrame n most)
 
 -- a written record is read back, whatever follows it

@@ -1,7 +1,7 @@
--- The laws of `recordAt`: its answer by the tests on the script and the offset, in the order of 01, and the answer's number.
+-- The laws of `recordAt`: its answer by the tests on the script and the offset, in the order of 01.
 -- Assumes nothing.
 use mathlib.Core.Path.{_≡_, refl, sym, ap, _∙_}
-use mathlib.Core.Bool.{Bool, true, false, cond, _||_}
+use mathlib.Core.Bool.{true, false, _||_}
 use mathlib.Core.List.{List}
 use Prim.Native.Nat.{ℕ, _+_, _-_, _≤_, _<_}
 use native.Mathlib.Omega.{arith}
@@ -10,38 +10,14 @@ use lib.ListN.{length, drop, length-drop}
 use lib.Seq.{length-take-le}
 use borrow.Author.Tests.{lt-ltb, le-ltb}
 use Rattle.common.proofs.Laws.Choice.{yes, no}
-use Rattle.script.specs.Record.{frame, wait}
 use Rattle.common.specs.Limits.{longestFrame, longestScript}
 use Rattle.common.specs.Refusals.{scriptTooLong}
-use Rattle.script.specs.Decode.{wrongLength, cutShort, faultNumber, Front, end, item, malformed, frontFrame, frontWait, front}
-use Rattle.script.specs.Reader.{twoBytesAt, fourBytesAt, numberOf, answer, recordAt, frontNumber, readerNumber, framePart}
+use Rattle.script.specs.Decode.{wrongLength, cutShort, faultNumber, frontFrame, frontWait, front}
+use Rattle.script.specs.Reader.{twoBytesAt, fourBytesAt, answer, recordAt, framePart}
 use Rattle.script.specs.declared.reader.Found.{Found}
 use Rattle.script.specs.declared.reader.Found.the-variants.{Frame, Wait, Refused}
 use Rattle.script.proofs.Laws.Front.{body-wrong, body-short, body-whole}
 use Rattle.script.proofs.Laws.Places.{frame-front-at, frame-front-short, wait-front-at, wait-front-short}
-
--- the answer's number is the first refusal that holds
-pub record-at-number : (script : List ℕ) (offset : ℕ) → numberOf (recordAt script offset) ≡ readerNumber script offset
-unfolding recordAt readerNumber
-record-at-number script offset = by-tests (ltb longestScript (length script)) (ltb (length script) offset)
-  where
-    answer-number : (f : Front) → numberOf (answer offset f) ≡ frontNumber f
-    answer-number end = refl
-    answer-number (item (frame bytes) rest) = refl
-    answer-number (item (wait microseconds) rest) = refl
-    answer-number (malformed fault) = refl
-
-    by-tests : (long past : Bool)
-        → numberOf (cond long (Refused scriptTooLong offset) (cond past (Refused (faultNumber cutShort) offset) (answer offset (front (drop offset script)))))
-        ≡ cond long scriptTooLong (cond past (faultNumber cutShort) (frontNumber (front (drop offset script))))
-    by-tests true past = refl
-    by-tests false true = refl
-    by-tests false false = answer-number (front (drop offset script))
-
--- both clauses of the reader's promise follow from the first
-pub record-at-promised : (script : List ℕ) (offset : ℕ) {found : Found} → found ≡ recordAt script offset
-    → (found ≡ recordAt script offset) × (numberOf found ≡ readerNumber script offset)
-record-at-promised script offset e = (e, ap numberOf e ∙ record-at-number script offset)
 
 pub record-at-long : (script : List ℕ) (offset : ℕ) → longestScript < length script → recordAt script offset ≡ Refused scriptTooLong offset
 unfolding recordAt

@@ -3,11 +3,11 @@
 -- Assumes nothing.
 use mathlib.Core.Path.{_≡_, refl}
 use mathlib.Core.List.{List, [], _∷_, _++_, append-assoc}
-use Prim.Native.Nat.{ℕ, _+_, _*_, _≤_}
+use Prim.Native.Nat.{ℕ, _+_, _*_, _/_, _%_, _≤_}
 use native.Mathlib.Omega.{arith}
 use lib.ListN.{length, length-append}
 use Rattle.common.proofs.Laws.Each.{each-append, each-left, each-right}
-use Rattle.script.specs.Record.{Record, frame, wait, Fits, AllFit, frameHead, encodeRecord, encode, recordLength, scriptLength, framesIn, microsecondsIn, outputLength}
+use Rattle.script.specs.Record.{Record, frame, wait, Fits, AllFit, scriptMark, waitMark, frameHead, encodeRecord, encode, recordLength, scriptLength, framesIn, microsecondsIn, outputLength}
 
 pub all-fit-append : (rs ss : List Record) → AllFit rs → AllFit ss → AllFit (rs ++ ss)
 all-fit-append = each-append Fits
@@ -29,6 +29,10 @@ encode-front r rs = refl
 pub encoded-frame : (bytes : List ℕ) → encodeRecord (frame bytes) ≡ frameHead (length bytes) ++ bytes
 unfolding encodeRecord
 encoded-frame bytes = refl
+
+pub encoded-wait : (n : ℕ) → encodeRecord (wait n) ≡ scriptMark ∷ waitMark ∷ n / 16777216 ∷ n / 65536 % 256 ∷ n / 256 % 256 ∷ n % 256 ∷ []
+unfolding encodeRecord
+encoded-wait n = refl
 
 pub encode-append : (rs ss : List Record) → encode (rs ++ ss) ≡ encode rs ++ encode ss
 unfolding encode

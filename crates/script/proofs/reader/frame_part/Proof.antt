@@ -9,7 +9,7 @@ use denote.Enum.Declared.{tagOf}
 use Rattle.script.proofs.reader.Found.{the-type}
 use Rattle.script.specs.declared.reader.Found.{Found}
 use Rattle.script.specs.declared.reader.Found.the-variants.{Frame, Wait, End, Refused}
-use Rattle.script.specs.Reader.{partOf, framePart}
+use Rattle.script.specs.Answers.{partOf}
 use Rattle.script.proofs.Laws.Answers.{answer-told}
 use borrow.Author.Needs.{needs}
 use Rattle.script.proofs.reader.frame_part.Statement.{statement}
@@ -32,25 +32,23 @@ slice-aggregate-result : tie.Need-slice-aggregate-result
 slice-aggregate-result c = search needs
 
 returns : tie.Need-returns
-unfolding framePart
 returns c =
     let a = c .before .before .before .before .args in
     let r = c .before .before .record-at in
-    sym (ap (partOf (a .script .now)) (sym (r .ensures .0)) ∙ others (a .script .now) (r .result) (c .before .match .keys2))
+    sym (others (a .script .now) (r .result) (c .before .match .keys2)) ∙ r .ensures .part-is
 
 part-at-requires : tie.Need-part-at-requires
 part-at-requires c κs =
     let a = c .before .before .before .before .before .args in
     let r = c .before .before .before .record-at in
-    let t = (rw (c .before .found .given .1) at (answer-told (a .script .now) (a .offset) (r .result) (r .ensures .0))) refl in
+    let t = (rw (c .before .found .given .1) at (answer-told (a .script .now) (a .offset) (r .result) (r .ensures .answer-is))) refl in
     omega (arith, t .start-is, t .long, t .stands .next-is, t .stands .inside)
 
 returns-2 : tie.Need-returns-2
-unfolding framePart
 returns-2 c =
     let a = c .before .before .before .before .before .before .args in
     let r = c .before .before .before .before .record-at in
-    c .part-at .ensures ∙ ap (partOf (a .script .now)) (sym (c .before .before .found .given .1) ∙ r .ensures .0)
+    c .part-at .ensures ∙ ap (partOf (a .script .now)) (sym (c .before .before .found .given .1)) ∙ r .ensures .part-is
 
 pub frame-part-spec : {M : Type 1} → statement M
 frame-part-spec =

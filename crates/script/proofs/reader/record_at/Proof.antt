@@ -2,17 +2,18 @@
 -- Assumes nothing.
 use mathlib.Core.Path.{sym, _∙_}
 use borrow.Author.Needs.{needs}
-use Rattle.script.proofs.Laws.Reader.{record-at-promised, record-at-long, record-at-past, record-at-inside}
+use Rattle.script.proofs.Laws.Reader.{record-at-long, record-at-past, record-at-inside}
+use Rattle.script.proofs.Laws.Values.{record-at-answered}
 use Rattle.script.proofs.reader.record_at.Statement.{statement}
 use Rattle.script.proofs.reader.record_at.Tie as tie
 
 returns : tie.Need-returns
-returns c = let a = c .before .before .args in record-at-promised _ _ (sym (record-at-long (a .script .now) (a .offset) (c .if1 .taken)))
+returns c = let a = c .before .before .args in record-at-answered _ _ (sym (record-at-long (a .script .now) (a .offset) (c .if1 .taken)))
 
 returns-2 : tie.Need-returns-2
 returns-2 c =
     let a = c .before .before .before .args in
-    record-at-promised _ _ (sym (record-at-past (a .script .now) (a .offset) (c .before .if1 .left) (c .if2 .taken)))
+    record-at-answered _ _ (sym (record-at-past (a .script .now) (a .offset) (c .before .if1 .left) (c .if2 .taken)))
 
 front-at-requires : tie.Need-front-at-requires
 front-at-requires c κs = search needs
@@ -20,7 +21,7 @@ front-at-requires c κs = search needs
 returns-3 : tie.Need-returns-3
 returns-3 c =
     let a = c .before .before .before .before .args in
-    record-at-promised _ _
+    record-at-answered _ _
     (c .front-at .ensures ∙ sym (record-at-inside (a .script .now) (a .offset) (c .before .before .if1 .left) (c .before .if2 .left)))
 
 pub record-at-spec : {M : Type 1} → statement M
