@@ -1,4 +1,5 @@
 pub mod Rows
+pub mod Modes
 pub mod Fits
 pub mod Carries
 pub mod Sent

@@ -1,2 +1,3 @@
 pub mod Effect
+pub mod Page
 pub mod Cut

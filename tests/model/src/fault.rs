@@ -24,6 +24,8 @@ pub enum Fault {
     IgnoredKeepsArmed,
     /// BPL alone, or WP low alone, locks the status register.
     LockedByEither,
+    /// A status write leaves WEL as it was.
+    StatusWriteLeavesWel,
     /// Asked for a chip of an unknown number, it answers with a new 008A.
     UnknownChipIs008a,
     /// Power-up refuses a state that isn't sound by number 2.

@@ -208,7 +208,7 @@ fn take<const FAULT: u8>(chip: &Chip, state: &mut State, kind: Kind, frame: &[u8
             state.bp = byte >> 2 & 7;
             state.tb = chip.tb && byte & 0x20 != 0;
             state.bpl = byte & 0x80 != 0;
-            state.wel = false;
+            state.wel &= Fault::StatusWriteLeavesWel.within(FAULT);
         }
         Kind::EraseSector => state.left = SECTOR_TIME,
         Kind::EraseBlock => state.left = chip.block_time,

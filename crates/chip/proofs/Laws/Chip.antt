@@ -4,18 +4,19 @@
 use mathlib.Core.Path.{_≡_, refl, sym, _∙_}
 use mathlib.Core.Bool.{Bool, true, false, _&&_, not, false≢true, true≢false}
 use mathlib.Core.List.{List, [], _∷_}
+use mathlib.Core.Logic.{_⊎_, inl, inr}
 use Prim.Native.Nat.{ℕ, _%_, _≤_, _<_}
 use native.Mathlib.Omega.{arith}
 use lib.Dec.{eqb}
-use borrow.Author.Tests.{eq-eqb, not-true}
+use borrow.Author.Tests.{eq-eqb, eqb-true, not-true}
 use Rattle.common.specs.Lists.{Each}
-use Rattle.common.proofs.Laws.Booleans.{and-l, and-r}
-use Rattle.common.proofs.Laws.Choice.{cond-elim}
+use Rattle.common.proofs.Laws.Booleans.{and-l, and-r, or-none-i}
+use Rattle.common.proofs.Laws.Choice.{cond-elim, cases}
 use Rattle.common.proofs.Laws.Pairs.{_▹_}
 use Rattle.chip.specs.declared.Chip.{Chip}
 use Rattle.chip.specs.Kinds.{unknown, pageProgram, aaiProgram, ewsr, wrsr, wren, wrdi, deepPowerDown}
 use Rattle.chip.specs.Instructions.{instructions008A, instructions05PA, kindIn}
-use Rattle.chip.specs.Chip.{f25l05pa, Model, model008A, model05PA, models, modelIn, isKnown, chipOf, kindOf}
+use Rattle.chip.specs.Chip.{f25l008a, f25l05pa, Model, model008A, model05PA, models, modelIn, isKnown, chipOf, instructionsOf, kindOf}
 
 pub record Regular (chip : Chip) (kind : ℕ → ℕ) : Type 0 where
   -- ---- the array
@@ -127,3 +128,25 @@ known-5 = refl
 pub chip-of-5 : chipOf 5 ≡ f25l05pa
 unfolding chipOf
 chip-of-5 = refl
+
+-- ---- the two numbers
+
+pub known-8 : isKnown 8 ≡ true
+unfolding isKnown
+known-8 = refl
+
+pub chip-of-8 : chipOf 8 ≡ f25l008a
+unfolding chipOf
+chip-of-8 = refl
+
+-- and no other
+pub known-number : (number : ℕ) → isKnown number ≡ true → (number ≡ 8) ⊎ (number ≡ 5)
+unfolding isKnown
+known-number number k =
+    cases (eqb number 8) (λ e. inl (eqb-true number 8 e))
+    (λ e. cases (eqb number 5) (λ e. inr (eqb-true number 5 e)) (λ f. absurd (false≢true (sym (or-none-i e (or-none-i f refl)) ∙ k))))
+
+-- an opcode's kind is that of its row among the chip's instructions
+pub kind-of-is : (number op : ℕ) → kindOf number op ≡ kindIn (instructionsOf number) op
+unfolding kindOf
+kind-of-is number op = refl

@@ -6,19 +6,19 @@ use mathlib.Core.List.{List, [], _∷_, _++_}
 use Prim.Native.Nat.{ℕ, _+_, _-_, _*_, _/_, _%_, _≤_, _<_}
 use native.Mathlib.Nat.{div-div-eq-div-mul, mod-eq-of-lt}
 use native.Mathlib.Omega.{arith}
-use lib.ListN.{getD, length}
+use lib.ListN.{length}
 use borrow.Author.Tests.{le-leb}
 use Rattle.common.specs.Numbers.{addressBytes}
 use Rattle.common.proofs.Laws.Booleans.{and-i}
-use Rattle.chip.specs.Chip.{kindOf}
 use Rattle.chip.proofs.Laws.Chip.{regular}
 use Rattle.state.specs.declared.State.{State}
 use Rattle.state.specs.State.{dataOf}
 use Rattle.state.specs.Protection.{firstProtected}
 use Rattle.state.proofs.Laws.Protection.{first-border}
 use Rattle.command.specs.declared.Command.the-variants.{WriteEnable, WriteDisable, Arm, WriteStatus, ProgramPage, ProgramWord}
-use Rattle.command.specs.Command.{address, writable, byKind, inAai, commandOf}
+use Rattle.command.specs.Command.{address, writable, commandOf}
 use Rattle.command.specs.Fits.{Resting, Open}
+use Rattle.command.proofs.Laws.Modes.{seen-at-rest, seen-in-aai}
 
 -- three bytes, high byte first, of an address of the chip
 address-sent : (s : State) (op a : ℕ) (sent : List ℕ) → a < dataOf s .size → address s (op ∷ (addressBytes a ++ sent)) ≡ a
@@ -38,35 +38,26 @@ module _ (s : State) (wp : Bool) where
   -- ---- at rest: the opcode's kind decides
 
   module _ (r : Resting s) where
-    at-rest : (f : List ℕ) → commandOf s wp f ≡ byKind s wp f (kindOf (s .chip) (getD f 0 0))
-    unfolding commandOf
-    at-rest f = rw (r .still, r .single, r .awake) refl
-
     pub wren-taken : commandOf s wp (0x06 ∷ []) ≡ WriteEnable
-    unfolding byKind
-    wren-taken = rw (at-rest (0x06 ∷ []), regular (s .chip) .wren-is-06) refl
+    wren-taken = rw (seen-at-rest s (0x06 ∷ []) wp r, regular (s .chip) .wren-is-06) refl
 
     pub wrdi-taken : commandOf s wp (0x04 ∷ []) ≡ WriteDisable
-    unfolding byKind
-    wrdi-taken = rw (at-rest (0x04 ∷ []), regular (s .chip) .wrdi-is-04) refl
+    wrdi-taken = rw (seen-at-rest s (0x04 ∷ []) wp r, regular (s .chip) .wrdi-is-04) refl
 
     pub ewsr-taken : dataOf s .ewsr ≡ true → commandOf s wp (0x50 ∷ []) ≡ Arm
-    unfolding byKind
-    ewsr-taken e = rw (at-rest (0x50 ∷ []), regular (s .chip) .ewsr-is-50 e) refl
+    ewsr-taken e = rw (seen-at-rest s (0x50 ∷ []) wp r, regular (s .chip) .ewsr-is-50 e) refl
 
     -- armed, and not with BPL 1 while WP is low
     pub wrsr-taken : (byte : ℕ) → s .armed ≡ true → not (s .bpl) || wp ≡ true → commandOf s wp (0x01 ∷ byte ∷ []) ≡ WriteStatus byte
-    unfolding byKind
-    wrsr-taken byte a e = rw (at-rest (0x01 ∷ byte ∷ []), regular (s .chip) .wrsr-is-01, a, e) refl
+    wrsr-taken byte a e = rw (seen-at-rest s (0x01 ∷ byte ∷ []) wp r, regular (s .chip) .wrsr-is-01, a, e) refl
 
     pub first-word-taken : (a x y : ℕ) → dataOf s .«word_plans» ≡ true → a % 2 ≡ 0 → Open s (a + 2)
         → commandOf s wp (0xad ∷ (addressBytes a ++ (x ∷ y ∷ []))) ≡ ProgramWord a 4
-    unfolding byKind
     first-word-taken a x y words even o =
         let low : a < dataOf s .size = omega (arith, first-border s .in-size, o .free) in
         let same : a / 2 * 2 ≡ a = omega arith in
         rw (
-          at-rest (0xad ∷ (addressBytes a ++ (x ∷ y ∷ []))),
+          seen-at-rest s (0xad ∷ (addressBytes a ++ (x ∷ y ∷ []))) wp r,
           regular (s .chip) .aai-program-is-ad words,
           address-sent s 0xad a (x ∷ y ∷ []) low,
           same,
@@ -76,13 +67,12 @@ module _ (s : State) (wp : Bool) where
 
     pub page-taken : (a x : ℕ) (sent : List ℕ) → dataOf s .«word_plans» ≡ false → Open s (a + 1)
         → commandOf s wp (0x02 ∷ (addressBytes a ++ (x ∷ sent))) ≡ ProgramPage a (length (x ∷ sent))
-    unfolding byKind
     page-taken a x sent pages o =
         let low : a < dataOf s .size = omega (arith, first-border s .in-size, o .free) in
         let f : List ℕ = 0x02 ∷ (addressBytes a ++ (x ∷ sent)) in
         let count : length f - 4 ≡ length (x ∷ sent) = omega arith in
         rw (
-          at-rest f,
+          seen-at-rest s f wp r,
           regular (s .chip) .page-program-is-02 pages,
           address-sent s 0x02 a (x ∷ sent) low,
           le-leb 5 (length f) (omega arith),
@@ -93,14 +83,8 @@ module _ (s : State) (wp : Bool) where
   -- ---- idle in AAI: the opcode itself
 
   module _ (still : s .left ≡ 0) (aai : s .aai ≡ true) where
-    idle : (f : List ℕ) → commandOf s wp f ≡ inAai s f (getD f 0 0)
-    unfolding commandOf
-    idle f = rw (still, aai) refl
-
     pub next-word-taken : (x y : ℕ) → Open s (s .next + 2) → commandOf s wp (0xad ∷ x ∷ y ∷ []) ≡ ProgramWord (s .next) 1
-    unfolding inAai
-    next-word-taken x y o = rw (idle (0xad ∷ x ∷ y ∷ []), is-open s (s .next + 2) o) refl
+    next-word-taken x y o = rw (seen-in-aai s (0xad ∷ x ∷ y ∷ []) wp still aai, is-open s (s .next + 2) o) refl
 
     pub wrdi-taken-in-aai : commandOf s wp (0x04 ∷ []) ≡ WriteDisable
-    unfolding inAai
-    wrdi-taken-in-aai = idle (0x04 ∷ [])
+    wrdi-taken-in-aai = seen-in-aai s (0x04 ∷ []) wp still aai

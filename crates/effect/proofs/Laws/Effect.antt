@@ -1,7 +1,7 @@
 -- An effect byte by byte: all touched addresses lie in its span, and what `changed` and `cut` leave at a touched address and at another one.
 -- Assumes nothing.
 use mathlib.Core.Path.{_≡_, refl}
-use mathlib.Core.Bool.{true, false, false≢true}
+use mathlib.Core.Bool.{true, false, cond, false≢true}
 use mathlib.Core.List.{List}
 use Prim.Native.Nat.{ℕ, _/_, _≤_, _<_}
 use native.Mathlib.Omega.{arith}
@@ -61,6 +61,10 @@ mask-place-start e = count-none (touches e) (spanOf e .lo) (untouched-below e)
 -- ---- the byte x at address k
 
 module _ (e : Effect) (f : List ℕ) (k x : ℕ) where
+  pub changed-is : changed e f k x ≡ cond (touches e k) (struck e f k x) x
+  unfolding changed
+  changed-is = refl
+
   pub changed-touched : touches e k ≡ true → changed e f k x ≡ struck e f k x
   unfolding changed
   changed-touched t = rw t refl

@@ -1,7 +1,7 @@
 -- Page program: the byte that `changed` finds by a formula is the one that laying the data down byte after byte leaves, straight or round the page.
 -- Assumes nothing.
 use mathlib.Core.Path.{_≡_, refl, sym, ap, _∙_}
-use mathlib.Core.Bool.{cond}
+use mathlib.Core.Bool.{true, cond, _&&_}
 use mathlib.Core.List.{List, [], _∷_}
 use mathlib.Core.Logic.{⊎-elim}
 use Prim.Native.Nat.{ℕ, suc, _+_, _-_, _*_, _/_, _%_, _≤_, _<_}
@@ -11,32 +11,17 @@ use lib.Bits.{bitAnd}
 use lib.Dec.{leb, ltb, eqb}
 use lib.ListN.{getD, length, drop, length-drop}
 use lib.Seq.{getD-drop}
-use borrow.Author.Tests.{leb-true, lt-ltb, le-ltb, eq-eqb, ne-eqb}
+use borrow.Author.Tests.{leb-true, lt-ltb, le-ltb, eqb-true, eqb-false, eq-eqb, ne-eqb}
 use Rattle.common.proofs.Laws.Choice.{cond-elim, cases}
 use Rattle.common.proofs.Laws.Lists.{split}
 use Rattle.effect.specs.declared.Effect.{Effect}
 use Rattle.effect.specs.declared.Effect.the-variants.{Program, Round}
 use Rattle.effect.specs.Effect.{pageEffect, turn, lastFor, touches, struck, changed}
+use Rattle.effect.specs.Page.{laid, layDown, blank}
 use Rattle.common.specs.Lists.{within}
 use Rattle.common.proofs.Laws.Bits.{and-full}
-use Rattle.effect.proofs.Laws.Effect.{changed-other}
 use Rattle.common.proofs.Laws.Places.{within-bounds, within-yes, within-below, within-above}
 use Rattle.effect.proofs.Laws.Turn.{turn-offset, turn-up, turn-round, turn-here, turn-next-here, turn-there, turn-next-there}
-
--- ---- the rule, step by step
-
--- a page's buffer, by offset, with byte d laid at one
-abbrev pub laid : (ℕ → ℕ) → ℕ → ℕ → ℕ → ℕ
-laid buffer offset d q = cond (eqb q offset) d (buffer q)
-
--- "data byte j goes to offset (address + j) modulo 256 of the page; a later byte for the same offset replaces the earlier"
-abbrev pub layDown : (ℕ → ℕ) → ℕ → List ℕ → ℕ → ℕ
-layDown buffer a [] = buffer
-layDown buffer a (d ∷ ds) = layDown (laid buffer (a % 256) d) (a + 1) ds
-
--- what stands in the buffer where no data goes: FF, which programs nothing
-abbrev pub blank : ℕ → ℕ
-blank q = 255
 
 -- ---- what it leaves at an offset: the last byte for it
 
@@ -114,27 +99,42 @@ module _ (a n k : ℕ) (f : List ℕ) (x : ℕ) (page : k / 256 ≡ a / 256) whe
   page-changed =
       cond-elim (λ (e : Effect). changed e f k x ≡ programmed) (leb n (256 - a % 256)) (λ t. straight (leb-true n (256 - a % 256) t)) (λ _. round)
 
--- "Programming sets each byte to old AND new": what the buffer has for an address of the page, where no data goes FF
-pub page-laid : (a n k : ℕ) (f : List ℕ) (x : ℕ) → k / 256 ≡ a / 256 → 4 + n ≡ length f → x < 256
-    → changed (pageEffect a n) f k x ≡ bitAnd x (layDown blank a (drop 4 f) (k % 256))
-page-laid a n k f x page carries byte = page-changed a n k f x page ∙ sym (ap (bitAnd x) buffer ∙ all)
-  where
-    long : length (drop 4 f) ≡ n
-    long = length-drop 4 f ∙ omega arith
+-- ---- the buffer at an address of the page: FF where no data goes
 
-    buffer : layDown blank a (drop 4 f) (k % 256) ≡ cond (ltb (turn a k) n) (getD f (4 + lastFor a n k) 0) 255
-    buffer =
-        lay-down-last blank a (drop 4 f) (k % 256) (omega arith)
-        ∙ rw (turn-offset a k, long, getD-drop 4 f (lastFor a n k) 0) refl
+module _ (a n k : ℕ) (f : List ℕ) (carried : 4 + n ≡ length f) where
+  buffer : layDown blank a (drop 4 f) (k % 256) ≡ cond (ltb (turn a k) n) (getD f (4 + lastFor a n k) 0) 255
+  buffer =
+      let long : length (drop 4 f) ≡ n = length-drop 4 f ∙ omega arith in
+      lay-down-last blank a (drop 4 f) (k % 256) (omega arith) ∙ rw (turn-offset a k, long, getD-drop 4 f (lastFor a n k) 0) refl
 
-    all : bitAnd x (cond (ltb (turn a k) n) (getD f (4 + lastFor a n k) 0) 255) ≡ cond (ltb (turn a k) n) (bitAnd x (getD f (4 + lastFor a n k) 0)) x
-    all = cases (ltb (turn a k) n) (λ t. rw t refl) (λ t. rw t (and-full x byte))
+  -- "Programming sets each byte to old AND new"
+  pub page-laid : (x : ℕ) → k / 256 ≡ a / 256 → x < 256 → changed (pageEffect a n) f k x ≡ bitAnd x (layDown blank a (drop 4 f) (k % 256))
+  page-laid x page byte = page-changed a n k f x page ∙ sym (ap (bitAnd x) buffer ∙ all)
+    where
+      all : bitAnd x (cond (ltb (turn a k) n) (getD f (4 + lastFor a n k) 0) 255) ≡ cond (ltb (turn a k) n) (bitAnd x (getD f (4 + lastFor a n k) 0)) x
+      all = cases (ltb (turn a k) n) (λ t. rw t refl) (λ t. rw t (and-full x byte))
 
--- no data goes into another page
-pub page-other : (a n k : ℕ) (f : List ℕ) (x : ℕ) → (k / 256 ≡ a / 256 → ⊥) → changed (pageEffect a n) f k x ≡ x
+  -- where some goes, whatever stood there
+  pub page-struck : (x : ℕ) → k / 256 ≡ a / 256 → ltb (turn a k) n ≡ true
+      → changed (pageEffect a n) f k x ≡ bitAnd x (layDown blank a (drop 4 f) (k % 256))
+  page-struck x page sent = page-changed a n k f x page ∙ rw sent (ap (bitAnd x) (sym (buffer ∙ rw sent refl)))
+
+-- the addresses that it programs: those of the page that some data goes to
+pub page-touches : (a n k : ℕ) → touches (pageEffect a n) k ≡ (eqb (k / 256) (a / 256) && ltb (turn a k) n)
 unfolding pageEffect touches
-page-other a n k f x other =
-    cond-elim (λ (e : Effect). changed e f k x ≡ x) (leb n (256 - a % 256))
-    (λ t. let l = leb-true n (256 - a % 256) t in
-    cases (within a n k) (λ w. let b = within-bounds a n k w in absurd (other (omega arith))) (λ w. changed-other (Program a n 4) f k x w))
-    (λ _. changed-other (Round a n) f k x (rw (ne-eqb (k / 256) (a / 256) other) refl))
+page-touches a n k =
+    cond-elim (λ (e : Effect). touches e k ≡ (eqb (k / 256) (a / 256) && ltb (turn a k) n)) (leb n (256 - a % 256))
+    (λ t. straight (leb-true n (256 - a % 256) t)) (λ _. refl)
+  where
+    on-the-page : n ≤ 256 - a % 256 → k / 256 ≡ a / 256 → within a n k ≡ ltb (turn a k) n
+    on-the-page h page =
+        ⊎-elim (λ l. let t = turn-round a k page l in within-below a n k l ∙ sym (le-ltb (turn a k) n (omega arith)))
+        (λ l. let t = turn-up a k page l in
+        ⊎-elim (λ g. within-yes a n k l g ∙ sym (lt-ltb (turn a k) n (omega (arith, t, g))))
+        (λ g. within-above a n k g ∙ sym (le-ltb (turn a k) n (omega (arith, t, g)))) (split k (a + n))) (split k a)
+
+    straight : n ≤ 256 - a % 256 → within a n k ≡ (eqb (k / 256) (a / 256) && ltb (turn a k) n)
+    straight h =
+        cases (eqb (k / 256) (a / 256)) (λ t. rw t (on-the-page h (eqb-true (k / 256) (a / 256) t)))
+        (λ t. rw t (cases (within a n k)
+        (λ w. let b = within-bounds a n k w in absurd (eqb-false (k / 256) (a / 256) t (omega (arith, h, b .0, b .1)))) (λ w. w)))

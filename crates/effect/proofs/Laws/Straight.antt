@@ -10,7 +10,7 @@ use lib.Bits.{bitAnd}
 use lib.Dec.{leb}
 use lib.ListN.{getD, length}
 use borrow.Author.Tests.{leb-true, le-leb}
-use Rattle.common.specs.Lists.{mapi, onRun}
+use Rattle.common.specs.Lists.{mapi, onRun, within}
 use Rattle.common.proofs.Laws.Choice.{cond-elim}
 use Rattle.common.proofs.Laws.Lists.{mapi-id}
 use Rattle.common.proofs.Laws.Places.{within-yes, run-within}
@@ -27,6 +27,20 @@ keep-untouched k = refl
 
 pub keep-array : (f array : List ℕ) → mapi (changed Keep f) array ≡ array
 keep-array f array = mapi-id (changed Keep f) array (λ k h. changed-other Keep f k (getD array k 0) (keep-untouched k))
+
+-- ---- the addresses, and what becomes of each
+
+pub fill-touches : (a n k : ℕ) → touches (Fill a n) k ≡ within a n k
+unfolding touches
+fill-touches a n k = refl
+
+pub fill-struck : (a n : ℕ) (f : List ℕ) (k x : ℕ) → struck (Fill a n) f k x ≡ 255
+unfolding struck
+fill-struck a n f k x = refl
+
+pub program-touches-is : (a n i k : ℕ) → touches (Program a n i) k ≡ within a n k
+unfolding touches
+program-touches-is a n i k = refl
 
 -- ---- runs of neighbours in one pass
 

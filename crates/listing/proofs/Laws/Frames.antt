@@ -1,4 +1,4 @@
--- The laws of the frames' lines: cut out of all outputs they are those of the run, how long they are, and where the walk that writes them stands.
+-- The laws of the frames' lines: record by record, cut out of all outputs they are those of the run, how long they are, and where the walk that writes them stands.
 -- Assumes nothing.
 use mathlib.Core.Path.{_≡_, refl, ap}
 use mathlib.Core.List.{List, [], _∷_, _++_}
@@ -34,6 +34,20 @@ lines-cut (frame f ∷ rs) d =
     let long : length own ≡ length f = output-length high f d in
     rw (outputs-frame high f rs d, take-at own others (length f) long, drop-at own others (length f) long, lines-cut rs (step high (frame f) d)) refl
 lines-cut (wait n ∷ rs) d = rw (outputs-wait high n rs d) (lines-cut rs (step high (wait n) d))
+
+-- the lines, record by record
+pub lines-none : (d : Device) → frameLines [] d ≡ []
+unfolding frameLines
+lines-none d = refl
+
+pub lines-frame : (f : List ℕ) (rs : List Record) (d : Device)
+    → frameLines (frame f ∷ rs) d ≡ frameLine (outputOf high (frame f) d) ++ frameLines rs (step high (frame f) d)
+unfolding frameLines
+lines-frame f rs d = refl
+
+pub lines-wait : (n : ℕ) (rs : List Record) (d : Device) → frameLines (wait n ∷ rs) d ≡ frameLines rs (step high (wait n) d)
+unfolding frameLines
+lines-wait n rs d = refl
 
 -- a frame of n bytes has 2 n + 3 characters, and 4 + n bytes of the script
 pub cut-length : (rs : List Record) (output : List ℕ) → length (cutLines rs output) ≤ 2 * scriptLength rs

@@ -2,10 +2,11 @@
 -- Assumes nothing.
 use mathlib.Core.Path.{_≡_, refl, sym, ap, _∙_}
 use mathlib.Core.List.{List, [], _∷_, _++_}
+use mathlib.Core.Logic.{_⊎_, inl, inr, ⊎-elim}
 use Prim.Native.Nat.{ℕ, _≤_, _<_}
 use native.Mathlib.Omega.{arith}
 use lib.Dec.{ltb}
-use lib.ListN.{length, length-append, length-replicate}
+use lib.ListN.{length, replicate, length-append, length-replicate}
 use borrow.Author.Tests.{lt-ltb, ltb-true, ltb-false}
 use Rattle.common.proofs.Laws.Choice.{cases}
 use Rattle.chip.specs.Chip.{isKnown, chipOf}
@@ -13,6 +14,7 @@ use Rattle.state.specs.State.{dataOf}
 use Rattle.state.specs.Power.{newState, newChip}
 use Rattle.state.specs.Status.{statusOf}
 use Rattle.state.proofs.Laws.Power.{new-sound, new-chip-known}
+use Rattle.state.proofs.Laws.Soundness.{sound-of}
 use Rattle.chip.proofs.Laws.Chip.{known-5, chip-of-5}
 use Rattle.script.specs.Record.{Record}
 use Rattle.common.specs.Limits.{longestScript}
@@ -28,7 +30,7 @@ use Rattle.run.specs.Run.{run, outputs}
 use Rattle.run.specs.Script.{scriptNumber, ScriptAccepted, ScriptRun}
 use Rattle.run.proofs.Laws.Accepted.{number-accepted, number-by-survey}
 use Rattle.run.proofs.Laws.Script.{script-ran}
-use Rattle.run.proofs.Laws.Run.{outputs-length}
+use Rattle.run.proofs.Laws.Run.{outputs-length, Ready}
 use Rattle.common.specs.Buffer.{Put}
 use Rattle.text.specs.Text.{digit, hex, decimal, line}
 use Rattle.listing.specs.Listing.{longestListing, high, erased, new05pa, statusLine, refusalLine, frameLines, decodedLines, listing, cutLines}
@@ -36,6 +38,11 @@ use Rattle.text.proofs.Laws.Text.{length-line, length-hex, digit-low, decimal-t
 use Rattle.listing.proofs.Laws.Frames.{lines-cut, cut-length}
 
 -- ---- a script's survey
+
+pub fault-12 : (fault : Fault) → faultNumber fault ≡ 12
+fault-12 unknownMark = refl
+fault-12 wrongLength = refl
+fault-12 cutShort = refl
 
 -- by the script's length, and by what its bytes are
 by-survey : (P : List ℕ → Survey → List ℕ → Type 0)
@@ -54,15 +61,15 @@ by-survey P long good bad script =
     by-decoded short (records rs) e = good script rs short e
     by-decoded short (badAt fault offset) e = bad script fault offset
 
-fault-small : (fault : Fault) → faultNumber fault < 100
-fault-small unknownMark = omega arith
-fault-small wrongLength = omega arith
-fault-small cutShort = omega arith
+-- a script is run, or gets one of two refusals
+pub number-cases : (script : List ℕ) → (surveyOf script .number ≡ 0) ⊎ (surveyOf script .number ≡ 11) ⊎ (surveyOf script .number ≡ 12)
+number-cases =
+    by-survey (λ script s text. (s .number ≡ 0) ⊎ (s .number ≡ 11) ⊎ (s .number ≡ 12)) (λ _ _. inr (inl refl)) (λ _ _ _ _. inl refl)
+    (λ _ fault _. inr (inr (fault-12 fault)))
 
 -- a refusal's number has at most two digits
 pub number-small : (script : List ℕ) → surveyOf script .number < 100
-number-small =
-    by-survey (λ script s text. s .number < 100) (λ _ _. omega arith) (λ _ _ _ _. omega arith) (λ _ fault _. fault-small fault)
+number-small script = ⊎-elim (λ e. omega (arith, e)) (⊎-elim (λ e. omega (arith, e)) (λ e. omega (arith, e))) (number-cases script)
 
 -- the outputs are no longer than the longest script
 pub output-small : (script : List ℕ) → surveyOf script .output ≤ longestScript
@@ -105,9 +112,17 @@ listing-run =
     (λ script s text. s .number ≡ 0 → text ≡ frameLines (recordsOf script) new05pa ++ statusLine (run high (recordsOf script) new05pa))
     (λ _ _ e. absurd (omega (arith, e))) (λ script rs short d _. rw d refl) (λ _ fault _ e. absurd (omega (arith, e, fault-numbered fault)))
 
+-- the array's bytes, and that the chip takes every frame that fits
+pub erased-is : erased ≡ replicate 65536 0xff
+unfolding erased
+erased-is = refl
+
 erased-length : length erased ≡ dataOf (newChip 5 .state) .size
 unfolding erased
 erased-length = rw (new-chip-known 5 known-5, chip-of-5) (length-replicate {A = ℕ} 65536 0xff)
+
+pub new-ready : Ready new05pa
+new-ready = record { sound = sound-of (new05pa .state) (new-sound 5); sized = erased-length }
 
 -- with room for the outputs: what the answer and the output tell
 module _ {script room output : List ℕ} {ran : Ran} {after : Device} (lent : length room ≡ surveyOf script .output)

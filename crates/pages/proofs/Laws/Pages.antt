@@ -25,13 +25,19 @@ use Rattle.pages.proofs.Laws.Spans.{first-le, first-false, first-true, 
 -- ---- the part of a page
 
 module _ (d : ℕ → Bool) (page : ℕ) where
-  -- it lies within the page, begins with a byte that changes, and none behind it does
+  -- it lies within the page, begins with a byte that changes and ends with one, and none behind it does
   pub part-within : beforeFirst d 256 page + partLength d page ≤ 256
   unfolding partLength
   part-within = omega (arith, first-le d 256 page, last-le d 256 page)
 
   pub part-first : 0 < partLength d page → d (page + beforeFirst d 256 page) ≡ true
   part-first h = first-true d 256 page (omega (arith, part-within))
+
+  pub part-last : 0 < partLength d page → d (page + beforeFirst d 256 page + partLength d page - 1) ≡ true
+  unfolding partLength
+  part-last h =
+      let y : page + beforeFirst d 256 page + (throughLast d 256 page - beforeFirst d 256 page) - 1 ≡ page + throughLast d 256 page - 1 = omega arith in
+      ap d y ∙ last-true d 256 page (omega arith)
 
   pub part-behind : (k : ℕ) → page + beforeFirst d 256 page + partLength d page ≤ k → k < page + 256 → d k ≡ false
   unfolding partLength

@@ -1,10 +1,10 @@
--- What the registers are behind each command that a plan sends (`after-…`), and which chip they are of, behind any.
+-- What the registers are behind each command (`after-…`); behind any, which chip they are of and whether it is armed.
 -- Assumes nothing.
 use mathlib.Core.Path.{_≡_, refl}
-use mathlib.Core.Bool.{true, false}
+use mathlib.Core.Bool.{Bool, true, false}
 use Prim.Native.Nat.{ℕ, _+_}
 use Rattle.state.specs.declared.State.{State}
-use Rattle.state.specs.State.{withLeft, withWel, withArmed, withAai}
+use Rattle.state.specs.State.{withLeft, withWel, withArmed, withPowerDown, withAai}
 use Rattle.command.specs.declared.Command.{Command}
 use Rattle.command.specs.declared.Command.the-variants.{
   Ignored,
@@ -26,6 +26,30 @@ use Rattle.command.specs.declared.Command.the-variants.{
 use Rattle.registers.specs.Registers.{disarm, withStatusByte, stateAfter}
 
 module _ (s : State) where
+  pub after-ignored : stateAfter s Ignored ≡ disarm s
+  unfolding stateAfter
+  after-ignored = refl
+
+  pub after-read-status : stateAfter s ReadStatus ≡ disarm s
+  unfolding stateAfter
+  after-read-status = refl
+
+  pub after-read-array : (address silent : ℕ) → stateAfter s (ReadArray address silent) ≡ disarm s
+  unfolding stateAfter
+  after-read-array address silent = refl
+
+  pub after-read-jedec : stateAfter s ReadJedec ≡ disarm s
+  unfolding stateAfter
+  after-read-jedec = refl
+
+  pub after-read-signature : stateAfter s ReadSignature ≡ withPowerDown (disarm s) false
+  unfolding stateAfter
+  after-read-signature = refl
+
+  pub after-read-identity : (odd : Bool) → stateAfter s (ReadIdentity odd) ≡ disarm s
+  unfolding stateAfter
+  after-read-identity odd = refl
+
   pub after-write-enable : stateAfter s WriteEnable ≡ withArmed (withWel s true) true
   unfolding stateAfter
   after-write-enable = refl
@@ -42,6 +66,14 @@ module _ (s : State) where
   unfolding stateAfter
   after-write-status byte = refl
 
+  pub after-erase : (address count time : ℕ) → stateAfter s (Erase address count time) ≡ withLeft (disarm s) time
+  unfolding stateAfter
+  after-erase address count time = refl
+
+  pub after-program-byte : (address : ℕ) → stateAfter s (ProgramByte address) ≡ withLeft (disarm s) 7
+  unfolding stateAfter
+  after-program-byte address = refl
+
   pub after-program-page : (address count : ℕ) → stateAfter s (ProgramPage address count) ≡ withLeft (disarm s) 1500
   unfolding stateAfter
   after-program-page address count = refl
@@ -49,6 +81,10 @@ module _ (s : State) where
   pub after-program-word : (address from : ℕ) → stateAfter s (ProgramWord address from) ≡ withAai (withLeft (disarm s) 7) true (address + 2)
   unfolding stateAfter
   after-program-word address from = refl
+
+  pub after-sleep : stateAfter s Sleep ≡ withPowerDown (disarm s) true
+  unfolding stateAfter
+  after-sleep = refl
 
 pub state-after-chip : (s : State) (c : Command) → stateAfter s c .chip ≡ s .chip
 unfolding stateAfter
@@ -67,3 +103,39 @@ state-after-chip s (ProgramByte a) = refl
 state-after-chip s (ProgramPage a n) = refl
 state-after-chip s (ProgramWord a i) = refl
 state-after-chip s Sleep = refl
+
+-- the commands that set armed; every other clears it
+abbrev pub arms : Command → Bool
+arms Ignored = false
+arms ReadStatus = false
+arms (ReadArray a i) = false
+arms ReadJedec = false
+arms ReadSignature = false
+arms (ReadIdentity b) = false
+arms WriteEnable = true
+arms WriteDisable = false
+arms Arm = true
+arms (WriteStatus b) = false
+arms (Erase a n t) = false
+arms (ProgramByte a) = false
+arms (ProgramPage a n) = false
+arms (ProgramWord a i) = false
+arms Sleep = false
+
+pub state-after-armed : (s : State) (c : Command) → stateAfter s c .armed ≡ arms c
+unfolding stateAfter
+state-after-armed s Ignored = refl
+state-after-armed s ReadStatus = refl
+state-after-armed s (ReadArray a i) = refl
+state-after-armed s ReadJedec = refl
+state-after-armed s ReadSignature = refl
+state-after-armed s (ReadIdentity b) = refl
+state-after-armed s WriteEnable = refl
+state-after-armed s WriteDisable = refl
+state-after-armed s Arm = refl
+state-after-armed s (WriteStatus b) = refl
+state-after-armed s (Erase a n t) = refl
+state-after-armed s (ProgramByte a) = refl
+state-after-armed s (ProgramPage a n) = refl
+state-after-armed s (ProgramWord a i) = refl
+state-after-armed s Sleep = refl

@@ -6,16 +6,17 @@ use Prim.Native.Nat.{ℕ, _-_, _≤_, _<_}
 use native.Mathlib.Omega.{arith}
 use lib.Dec.{ltb, eqb}
 use borrow.Author.Tests.{lt-ltb, le-ltb, eq-eqb, ne-eqb}
+use Rattle.common.specs.Refusals.{stateNotSound}
 use Rattle.common.proofs.Laws.Choice.{cond-elim}
 use Rattle.state.specs.declared.State.{State}
 use Rattle.state.specs.declared.Answer.{Answer}
 use Rattle.state.specs.State.{withLeft, withWel, withAai}
-use Rattle.state.specs.Answer.{granted}
+use Rattle.state.specs.Answer.{granted, refused}
 use Rattle.state.specs.Protection.{firstProtected}
 use Rattle.state.specs.Soundness.{isSound, Sound}
 use Rattle.state.specs.Power.{stateRefusal}
 use Rattle.state.specs.Time.{cycleEnded, timePassed, passTime}
-use Rattle.state.proofs.Laws.Answer.{answer-sound}
+use Rattle.state.proofs.Laws.Answer.{answer-sound, answer-unsound}
 use Rattle.state.proofs.Laws.Soundness.{sound-of, of-sound}
 use Rattle.state.proofs.Laws.Time.{time-passed-sound}
 
@@ -67,6 +68,10 @@ module _ (s : State) (n : ℕ) where
   pub pass-time-granted : Sound s → passTime s n ≡ granted (timePassed s n)
   unfolding passTime
   pass-time-granted h = sym (answer-sound s (timePassed s n) (of-sound s h))
+
+  pub pass-time-refused : isSound s ≡ false → passTime s n ≡ refused stateNotSound s
+  unfolding passTime
+  pass-time-refused e = sym (answer-unsound s (timePassed s n) e)
 
   -- "Every call returns a sound state from a sound one."
   pub pass-time-sound : isSound s ≡ true → isSound (passTime s n .state) ≡ true

@@ -4,16 +4,17 @@ use mathlib.Core.Path.{_≡_, refl, sym}
 use mathlib.Core.Bool.{Bool, true, false, false≢true}
 use Prim.Native.Nat.{ℕ, _≤_}
 use native.Mathlib.Omega.{arith}
+use Rattle.common.specs.Refusals.{stateNotSound}
 use Rattle.common.proofs.Laws.Choice.{cond-elim}
 use Rattle.state.specs.declared.State.{State}
 use Rattle.state.specs.declared.Answer.{Answer}
 use Rattle.chip.specs.Chip.{isKnown, chipOf}
 use Rattle.state.specs.State.{dataOf}
 use Rattle.state.specs.Soundness.{isSound, Sound}
-use Rattle.state.specs.Answer.{granted}
+use Rattle.state.specs.Answer.{granted, refused}
 use Rattle.state.specs.Power.{atRest, newState, newChip, poweredUp, powerUp}
 use Rattle.chip.proofs.Laws.Chip.{regular, known-5}
-use Rattle.state.proofs.Laws.Answer.{answer-sound}
+use Rattle.state.proofs.Laws.Answer.{answer-sound, answer-unsound}
 use Rattle.state.proofs.Laws.Soundness.{of-sound}
 
 -- a chip with nothing going on
@@ -40,6 +41,11 @@ new-state-sound chip k = at-rest-sound chip (chipOf chip .«new_level») false f
 pub new-chip-known : (number : ℕ) → isKnown number ≡ true → newChip number ≡ granted (atRest number (chipOf number .«new_level») false false)
 unfolding newChip newState
 new-chip-known number k = rw k refl
+
+-- "making a chip of an unknown number gets no state and returns a new 05PA with refusal 1"
+pub new-chip-unknown : (number : ℕ) → isKnown number ≡ false → newChip number ≡ refused stateNotSound (atRest 5 (chipOf 5 .«new_level») false false)
+unfolding newChip newState
+new-chip-unknown number k = rw k refl
 
 -- new: also with refusal 1
 pub new-sound : (number : ℕ) → isSound (newChip number .state) ≡ true
@@ -71,3 +77,7 @@ powered-up-new s k = rw k refl
 pub power-up-granted : (s : State) → Sound s → powerUp s ≡ granted (poweredUp s)
 unfolding powerUp
 power-up-granted s h = sym (answer-sound s (poweredUp s) (of-sound s h))
+
+pub power-up-refused : (s : State) → isSound s ≡ false → powerUp s ≡ refused stateNotSound s
+unfolding powerUp
+power-up-refused s e = sym (answer-unsound s (poweredUp s) e)

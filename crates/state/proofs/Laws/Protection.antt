@@ -1,6 +1,7 @@
 -- The first protected address: at most the size, and whole blocks, so that a page, a word, a sector or a block is wholly protected or wholly not.
 -- Assumes nothing.
 use mathlib.Core.Path.{_≡_, refl, sym}
+use mathlib.Core.Bool.{true, false, cond}
 use mathlib.Core.List.{List, [], _∷_}
 use Prim.Native.Nat.{ℕ, zero, suc, _%_, _≤_}
 use native.Mathlib.Omega.{arith}
@@ -62,3 +63,13 @@ unfolding firstProtected
 open-at-0 s e =
     rw e
     (cond-elim (λ (n : ℕ). n ≡ dataOf s .size) (dataOf s .graded) (λ g. sym (regular (s .chip) .graded-size g)) (λ _. refl))
+
+-- ---- by what its chip says: the level's own, or all or nothing
+
+pub first-graded : (s : State) → dataOf s .graded ≡ true → firstProtected s ≡ getD firstProtectedByLevel (s .bp) 0
+unfolding firstProtected
+first-graded s g = rw g refl
+
+pub first-whole : (s : State) → dataOf s .graded ≡ false → firstProtected s ≡ cond (eqb (s .bp % 4) 0) (dataOf s .size) 0
+unfolding firstProtected
+first-whole s g = rw g refl

@@ -1,4 +1,4 @@
--- The laws of lines: how long they are, and how bytes in hex are written pair by pair.
+-- The laws of lines: how long they are, the sixteen digits, and how bytes in hex are written pair by pair.
 -- Assumes nothing.
 use mathlib.Core.Path.{_≡_, refl, sym}
 use mathlib.Core.List.{List, [], _∷_, _++_}
@@ -11,6 +11,7 @@ use lib.Seq.{drop-cons}
 use borrow.Author.Tests.{lt-ltb, le-ltb}
 use Rattle.common.proofs.Laws.Choice.{cond-elim, yes, no}
 use Rattle.common.specs.Buffer.{Put}
+use Rattle.common.specs.Lists.{tab}
 use Rattle.common.proofs.Laws.Buffer.{Left, left-start, left-room, left-fits, left-turn, left-last, left-none}
 use Rattle.text.specs.Text.{digit, pair, hex, decimal, lineFeed, line}
 
@@ -21,6 +22,20 @@ pub length-hex : (bytes : List ℕ) → length (hex bytes) ≡ 2 * length bytes
 unfolding hex
 length-hex [] = refl
 length-hex (byte ∷ bytes) = omega (arith, length-hex bytes)
+
+pub hex-none : hex [] ≡ []
+unfolding hex
+hex-none = refl
+
+pub hex-first : (byte : ℕ) (bytes : List ℕ) → hex (byte ∷ bytes) ≡ pair byte ++ hex bytes
+unfolding hex
+hex-first byte bytes = refl
+
+-- 0123456789ABCDEF
+pub digits : tab 16 digit
+    ≡ 0x30 ∷ 0x31 ∷ 0x32 ∷ 0x33 ∷ 0x34 ∷ 0x35 ∷ 0x36 ∷ 0x37 ∷ 0x38 ∷ 0x39 ∷ 0x41 ∷ 0x42 ∷ 0x43 ∷ 0x44 ∷ 0x45 ∷ 0x46 ∷ []
+unfolding digit
+digits = refl
 
 pub digit-low : (n : ℕ) → n < 10 → digit n ≡ 0x30 + n
 unfolding digit

@@ -59,6 +59,7 @@ faults! {
     StatusReadKeepsArmed
     IgnoredKeepsArmed
     LockedByEither
+    StatusWriteLeavesWel
     UnknownChipIs008a
     UnsoundIsRefusal2
     Bp2Protects05pa

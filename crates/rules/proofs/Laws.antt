@@ -1,0 +1,34 @@
+pub mod Chips
+mod Tests
+pub mod State
+pub mod Status
+pub mod Soundness
+pub mod Power
+pub mod Protection
+pub mod Time
+mod Does
+mod Armed
+pub mod Frames
+mod Rows
+pub mod Reads
+pub mod Switches
+pub mod Writes
+pub mod Ruled
+pub mod Interrupted
+pub mod Scripts
+pub mod Running
+pub mod Sent
+pub mod PlanStatus
+pub mod PlanWords
+pub mod PlanPages
+mod WordsDetermined
+mod PagesDetermined
+mod PlanDetermined
+pub mod Plans
+mod Numbered
+mod Conditions
+mod ScriptConditions
+pub mod Refusals
+pub mod Play
+pub mod Driver
+pub mod Demands

@@ -1,0 +1,221 @@
+-- The user's demands are met: one value, made of the theorems.
+-- Assumes nothing.
+use mathlib.Core.Path.{_≡_, refl, sym, _∙_}
+use mathlib.Core.Bool.{Bool, true}
+use mathlib.Core.List.{List}
+use Prim.Native.Nat.{ℕ}
+use lib.ListN.{length}
+use Rattle.chip.specs.declared.Chip.{Chip}
+use Rattle.state.specs.declared.State.{State}
+use Rattle.state.specs.State.{dataOf}
+use Rattle.state.specs.Soundness.{isSound}
+use Rattle.state.specs.Power.{newChip, powerUp}
+use Rattle.state.specs.Time.{passTime}
+use Rattle.state.proofs.Laws.Soundness.{sound-of}
+use Rattle.frame.specs.Device.{Device}
+use Rattle.frame.specs.Call.{frameNumber, frameDevice, frameOutput, cutNumber, cutDevice, cutOutput, FrameRun, CutRun}
+use Rattle.frame.proofs.Laws.Accepted.{number-accepted, cut-number-accepted}
+use Rattle.frame.proofs.Laws.Determined.{run-frame-determined, run-cut-frame-determined}
+use Rattle.script.specs.Record.{encode, framesIn, microsecondsIn}
+use Rattle.script.specs.Reader.{recordAt, framePart}
+use Rattle.script.proofs.Laws.Values.{record-at-answered}
+use Rattle.run.specs.declared.Ran.{Ran}
+use Rattle.run.specs.Script.{scriptNumber, scriptDevice, scriptOutput, scriptCount, ScriptRun}
+use Rattle.run.proofs.Laws.Script.{run-script-determined}
+use Rattle.plan.specs.declared.Planned.{Planned}
+use Rattle.plan.specs.Refusals.{planRefusal}
+use Rattle.plan.specs.Update.{givenRecords, atFront, PlanUpdated}
+use Rattle.plan.proofs.Laws.Update.{plan-update-determined}
+use Rattle.samples.proofs.Laws.Sessions.{samples-hold}
+use Rattle.host.specs.declared.reader.Record.{Record}
+use Rattle.host.specs.Read.{recordOf, ReadAnswered}
+use Rattle.host.proofs.Laws.Determined.{zeradok-read-determined}
+use Rattle.rules.specs.Opcodes.{sizeOf}
+use Rattle.rules.specs.Demands.{One, EveryCallAnswers, RefusedAsIn01, StatesAsIn01, FrameAsIn01, ScriptsAsIn01, Demands}
+use Rattle.rules.proofs.Laws.Chips.{data-by-chip}
+use Rattle.rules.proofs.Laws.State.{setters}
+use Rattle.rules.proofs.Laws.Status.{status-bits}
+use Rattle.rules.proofs.Laws.Soundness.{soundness, every-call-sound}
+use Rattle.rules.proofs.Laws.Power.{new-chips, power-up}
+use Rattle.rules.proofs.Laws.Protection.{protection}
+use Rattle.rules.proofs.Laws.Time.{time}
+use Rattle.rules.proofs.Laws.Frames.{frame-rules}
+use Rattle.rules.proofs.Laws.Reads.{reads}
+use Rattle.rules.proofs.Laws.Switches.{switches}
+use Rattle.rules.proofs.Laws.Writes.{writes}
+use Rattle.rules.proofs.Laws.Ruled.{ruled}
+use Rattle.rules.proofs.Laws.Interrupted.{wrong-mask, interrupted}
+use Rattle.rules.proofs.Laws.Scripts.{script-bytes, reader-rules}
+use Rattle.rules.proofs.Laws.Running.{run-rules, script-rules}
+use Rattle.rules.proofs.Laws.Plans.{plan-rules}
+use Rattle.rules.proofs.Laws.Refusals.{
+  power-up-refusals,
+  time-refusals,
+  frame-refusals,
+  cut-refusals,
+  plan-refusals,
+  script-refusals,
+  reader-refusals,
+}
+use Rattle.rules.proofs.Laws.Play.{play-rules}
+use Rattle.rules.proofs.Laws.Driver.{no-cut-hurts}
+
+-- ---- demand 1
+
+-- a call whose statement names its answer
+named : {A : Type 0} (a : A) → One (λ (b : A). b ≡ a)
+named a = record { answer = a; given = refl; only = λ other e. e }
+
+-- a call that answers and leaves three things
+triple : {A B C : Type 0} {a a′ : A} {b b′ : B} {c c′ : C} → (a ≡ a′) × ((b ≡ b′) × (c ≡ c′)) → _≡_ {A = A × (B × C)} (a, (b, c)) (a′, (b′, c′))
+triple e i = (e .0 i, (e .1 .0 i, e .1 .1 i))
+
+frame-answers : (wp : Bool) (f : List ℕ) (d : Device) (output : List ℕ)
+    → One (λ (a : ℕ × (Device × List ℕ)). FrameRun wp f d output (a .0) (a .1 .0) (a .1 .1))
+frame-answers wp f d output =
+    let made : FrameRun wp f d output (frameNumber wp f d output) (frameDevice wp f d output) (frameOutput wp f d output) =
+    record { number-is = refl; device-is = refl; output-is = refl } in
+    record {
+      answer = (frameNumber wp f d output, (frameDevice wp f d output, frameOutput wp f d output));
+      given = made;
+      only = λ other p. triple (run-frame-determined wp f d output _ _ _ _ _ _ p made);
+    }
+
+cut-answers : (wp : Bool) (f mask : List ℕ) (d : Device) (output : List ℕ)
+    → One (λ (a : ℕ × (Device × List ℕ)). CutRun wp f mask d output (a .0) (a .1 .0) (a .1 .1))
+cut-answers wp f mask d output =
+    let made : CutRun wp f mask d output (cutNumber wp f mask d output) (cutDevice wp f mask d output) (cutOutput wp f mask d output) =
+    record { number-is = refl; device-is = refl; output-is = refl } in
+    record {
+      answer = (cutNumber wp f mask d output, (cutDevice wp f mask d output, cutOutput wp f mask d output));
+      given = made;
+      only = λ other p. triple (run-cut-frame-determined wp f d output _ _ _ _ _ _ mask p made);
+    }
+
+script-answers : (wp : Bool) (script : List ℕ) (d : Device) (output : List ℕ)
+    → One (λ (a : Ran × (Device × List ℕ)). ScriptRun wp script d output (a .0) (a .1 .0) (a .1 .1))
+script-answers wp script d output =
+    let ran : Ran = record {
+      number = scriptNumber wp script d output;
+      state = scriptDevice wp script d output .state;
+      frames = scriptCount framesIn wp script d output;
+      microseconds = scriptCount microsecondsIn wp script d output;
+    } in
+    let made : ScriptRun wp script d output ran (scriptDevice wp script d output) (scriptOutput wp script d output) =
+    record { number-is = refl; state-is = refl; frames-are = refl; microseconds-are = refl; device-is = refl; output-is = refl } in
+    record {
+      answer = (ran, (scriptDevice wp script d output, scriptOutput wp script d output));
+      given = made;
+      only = λ other p. triple (run-script-determined wp script d output _ _ _ _ _ _ p made);
+    }
+
+plan-answers : (s : State) (wp : Bool) (array : List ℕ) (start : ℕ) (wanted buffer : List ℕ)
+    → One (λ (a : Planned × List ℕ). PlanUpdated s wp array start wanted buffer (a .1) (a .0))
+plan-answers s wp array start wanted buffer =
+    let given = givenRecords s wp array start wanted (length buffer) in
+    let planned : Planned = record {
+      number = planRefusal s wp array start wanted (length buffer);
+      state = s;
+      length = length (encode given);
+      frames = framesIn given;
+      microseconds = microsecondsIn given;
+    } in
+    let made : PlanUpdated s wp array start wanted buffer (atFront (encode given) buffer) planned =
+    record { number = refl; state = refl; length = refl; frames = refl; microseconds = refl; buffer-after = refl } in
+    record {
+      answer = (planned, atFront (encode given) buffer);
+      given = made;
+      only = λ other p i. let e = plan-update-determined s wp array start wanted buffer _ _ _ _ p made in (e .0 i, e .1 i);
+    }
+
+read-answers : (script : List ℕ) (offset : ℕ) → One (λ (r : Record). ReadAnswered script offset r)
+read-answers script offset =
+    let found = record-at-answered script offset refl in
+    let made : ReadAnswered script offset (recordOf (recordAt script offset)) = record {
+      answer-is = refl;
+      number-is = found .number-is;
+      kind-is = found .kind-is;
+      start-is = found .start-is;
+      length-is = found .length-is;
+      microseconds-are = found .microseconds-are;
+      next-is = found .next-is;
+    } in
+    record { answer = recordOf (recordAt script offset); given = made; only = λ other p. zeradok-read-determined script offset _ _ p made }
+
+answers : EveryCallAnswers
+answers = record {
+  new-chip = λ chip. named (newChip chip);
+  power-up = λ s. named (powerUp s);
+  pass-time = λ s n. named (passTime s n);
+  run-frame = frame-answers;
+  run-cut-frame = cut-answers;
+  run-script = script-answers;
+  plan-update = plan-answers;
+  read = read-answers;
+  read-part = λ script offset. named (framePart script offset);
+}
+
+refusals : RefusedAsIn01
+refusals = record {
+  new-chip = new-chips;
+  power-up = power-up-refusals;
+  pass-time = time-refusals;
+  run-frame = frame-refusals;
+  run-cut-frame = λ wp f mask d output. cut-refusals wp f d output mask;
+  run-script = λ wp script d output ran after shown bytes. script-refusals wp script d output bytes ran after shown;
+  plan-update = plan-refusals;
+  read = reader-refusals;
+}
+
+-- ---- demand 2
+
+states : StatesAsIn01
+states = record {
+  status = status-bits;
+  soundness = soundness;
+  every-call-sound = every-call-sound;
+  power-up = power-up;
+  protection = protection;
+  time = time;
+  setters = setters;
+}
+
+frames : (wp : Bool) (f : List ℕ) (d : Device) (output : List ℕ) → frameNumber wp f d output ≡ 0 → FrameAsIn01 wp f d output
+frames wp f d output e =
+    let a = number-accepted wp f d output e in
+    record {
+      rules = frame-rules a;
+      reads = reads a;
+      switches = switches a;
+      writes = writes a;
+      ruled = ruled a;
+      interrupted = λ shows registers change whole mask bytes taken.
+          interrupted a whole mask bytes (cut-number-accepted wp f d output mask taken .masked);
+      wrong-mask = λ shows registers change whole mask other. wrong-mask a whole mask other;
+    }
+
+scripts : ScriptsAsIn01
+scripts = record {
+  bytes = script-bytes;
+  read = reader-rules;
+  accepted = λ wp d sound sized. script-rules wp d record { sound = sound-of (d .state) sound; sized = sized ∙ sym (size-by-chip d sound) };
+  planned = λ s wp array start wanted buffer after planned plans good. plan-rules s array start wanted wp buffer after planned plans good;
+  run = run-rules;
+  play = play-rules;
+}
+  where
+    size-by-chip : (d : Device) → isSound (d .state) ≡ true → dataOf (d .state) .size ≡ sizeOf d
+    size-by-chip d sound = data-by-chip (d .state .chip) (sound-of (d .state) sound .chip-known) (λ (c : Chip). c .size)
+
+-- ---- all of it
+
+pub demands-met : Demands
+demands-met = record {
+  answers = answers;
+  refusals = refusals;
+  states = states;
+  frames = frames;
+  scripts = scripts;
+  cuts = no-cut-hurts;
+  samples = samples-hold;
+}

@@ -1,0 +1,100 @@
+-- The conditions of the refusals (01, "Refusal numbers"), in words: each number's second column.
+use mathlib.Core.Path.{_≡_}
+use mathlib.Core.Bool.{Bool, true, false}
+use mathlib.Core.List.{List}
+use mathlib.Core.Logic.{_⊎_}
+use Prim.Native.Nat.{ℕ, _+_, _*_, _≤_, _<_}
+use lib.ListN.{length, getD}
+use Rattle.common.specs.Bits.{bitAt}
+use Rattle.state.specs.declared.State.{State}
+use Rattle.state.specs.Protection.{firstProtected}
+use Rattle.frame.specs.Device.{Device}
+use Rattle.frame.specs.Ran.{maskWanted}
+use Rattle.script.specs.Record.{Record, AllFit, encode, outputLength}
+use Rattle.plan.specs.Plan.{planRecords}
+use Rattle.rules.specs.Chips.{byChip}
+use Rattle.rules.specs.Soundness.{SoundState}
+
+-- 1: "state not sound, or chip number unknown"
+abbrev pub NotSound : State → Type 0
+NotSound s = SoundState s → ⊥
+
+-- the chip's size
+abbrev pub size : State → ℕ
+size s = byChip (s .chip) 1048576 65536
+
+-- 2: "array length isn't the chip's size"
+abbrev pub WrongArray : State → List ℕ → Type 0
+WrongArray s array = length array ≡ size s → ⊥
+
+-- 3: "frame empty or over 4,101"
+abbrev pub WrongFrame : List ℕ → Type 0
+WrongFrame f = (length f ≡ 0) ⊎ (4101 < length f)
+
+-- 4: "output length isn't the frame's
+abbrev pub WrongOutput : List ℕ → List ℕ → Type 0
+WrongOutput f output = length output ≡ length f → ⊥
+
+-- (a script's: the sum)"
+abbrev pub WrongSum : List ℕ → List ℕ → Type 0
+WrongSum script output = (records : List Record) → AllFit records → script ≡ encode records → length output ≡ outputLength records → ⊥
+
+-- 5: "mask length wrong"
+abbrev pub WrongMask : Bool → List ℕ → List ℕ → Device → Type 0
+WrongMask wp f mask d = length mask ≡ maskWanted wp f d → ⊥
+
+-- 6: "over 4,096 wanted bytes, or start plus length above the size"
+abbrev pub WrongRegion : State → ℕ → List ℕ → Type 0
+WrongRegion s start wanted = (4096 < length wanted) ⊎ (size s < start + length wanted)
+
+-- 7: "not at rest: busy, AAI or power-down"
+abbrev pub NotAtRest : State → Type 0
+NotAtRest s = (0 < s .left) ⊎ (s .aai ≡ true) ⊎ (s .«power_down» ≡ true)
+
+-- 8: "a wanted 1 where the array has 0"
+pub record WantedRises (array : List ℕ) (start : ℕ) (wanted : List ℕ) : Type 0 where
+  pub place : ℕ
+  pub bit : ℕ
+  pub inside : place < length wanted
+  pub wanted-1 : bitAt (getD wanted place 0) bit ≡ 1
+  pub array-0 : bitAt (getD array (start + place) 0) bit ≡ 0
+
+-- 9: "step 1 needed, BPL 1, WP low"; "if a byte that changes is protected"
+pub record StatusLocked (s : State) (wp : Bool) (array : List ℕ) (start : ℕ) (wanted : List ℕ) : Type 0 where
+  pub place : ℕ
+  pub inside : place < length wanted
+  pub changes : getD array (start + place) 0 ≡ getD wanted place 0 → ⊥
+  pub protected : firstProtected s ≤ start + place
+  pub bpl-1 : s .bpl ≡ true
+  pub wp-low : wp ≡ false
+
+-- 10: "script longer than the buffer"
+abbrev pub BufferTooShort : State → List ℕ → ℕ → List ℕ → List ℕ → Type 0
+BufferTooShort s array start wanted buffer = length buffer < length (encode (planRecords s array start wanted))
+
+-- 11: "script over 32,768"
+abbrev pub ScriptTooLong : List ℕ → Type 0
+ScriptTooLong script = 32768 < length script
+
+-- 12: "some record malformed or cut short": the bytes are those of no records
+abbrev pub BadScript : List ℕ → Type 0
+BadScript script = (records : List Record) → AllFit records → script ≡ encode records → ⊥
+
+-- "5A 46, a length of two bytes, high first, 1 to 4,101, then the frame;
+pub record FrameStands (script : List ℕ) (offset : ℕ) : Type 0 where
+  pub mark-5a : getD script offset 0 ≡ 0x5a
+  pub mark-46 : getD script (offset + 1) 0 ≡ 0x46
+  pub at-least-1 : 1 ≤ getD script (offset + 2) 0 * 256 + getD script (offset + 3) 0
+  pub at-most-4101 : getD script (offset + 2) 0 * 256 + getD script (offset + 3) 0 ≤ 4101
+  pub whole : offset + 4 + (getD script (offset + 2) 0 * 256 + getD script (offset + 3) 0) ≤ length script
+
+-- or 5A 57 and four bytes of microseconds"
+pub record WaitStands (script : List ℕ) (offset : ℕ) : Type 0 where
+  pub mark-5a : getD script offset 0 ≡ 0x5a
+  pub mark-57 : getD script (offset + 1) 0 ≡ 0x57
+  pub whole : offset + 6 ≤ length script
+
+-- "(reader: the record at the offset, or an offset past the end)"
+abbrev pub BadRecord : List ℕ → ℕ → Type 0
+BadRecord script offset =
+    (length script < offset) ⊎ ((offset < length script) × (FrameStands script offset → ⊥) × (WaitStands script offset → ⊥))

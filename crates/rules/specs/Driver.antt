@@ -1,0 +1,37 @@
+-- A plan's script sent to the chip as a driver does: record by record as the reader answers, each frame and each wait by its own call; and a power cut
+-- anywhere on the way (00, demand 3).
+use mathlib.Core.Path.{_≡_}
+use mathlib.Core.Bool.{Bool}
+use mathlib.Core.List.{List}
+use Prim.Native.Nat.{ℕ, _≤_}
+use lib.ListN.{take, drop}
+use Rattle.common.specs.Bits.{Bytes}
+use Rattle.state.specs.Power.{powerUp}
+use Rattle.state.specs.Time.{passTime}
+use Rattle.script.specs.declared.reader.Found.the-variants.{Frame, Wait}
+use Rattle.script.specs.Reader.{recordAt}
+use Rattle.frame.specs.Device.{Device, withState}
+use Rattle.frame.specs.Call.{FrameRun, CutRun}
+
+-- so many microseconds pass
+abbrev pub waited : ℕ → Device → Device
+waited n chip = withState chip (passTime (chip .state) n .state)
+
+-- the power goes and comes back
+abbrev pub poweredUp : Device → Device
+poweredUp chip = withState chip (powerUp (chip .state) .state)
+
+-- the offset that the reader has come to, and the chip as it is then
+pub data SentTo (wp : Bool) (script : List ℕ) (chip : Device) : ℕ → Device → Type 0 where
+  none : SentTo wp script chip 0 chip
+  sends : {at start n next : ℕ} {met after : Device} {output shown : List ℕ} → SentTo wp script chip at met → recordAt script at ≡ Frame start n next
+      → FrameRun wp (take n (drop start script)) met output 0 after shown → SentTo wp script chip next after
+  waits : {at n next : ℕ} {met : Device} → SentTo wp script chip at met → recordAt script at ≡ Wait n next → SentTo wp script chip next (waited n met)
+
+-- "Cut the power between any two records, or inside any programming, with any part of the bits due to fall having fallen": the chip powered up
+pub data CutAt (wp : Bool) (script : List ℕ) (chip : Device) : Device → Type 0 where
+  between : {at : ℕ} {met : Device} → SentTo wp script chip at met → CutAt wp script chip (poweredUp met)
+  inside : {at start n next : ℕ} {met after : Device} {mask output shown : List ℕ} → SentTo wp script chip at met → recordAt script at ≡ Frame start n next
+      → Bytes mask → CutRun wp (take n (drop start script)) mask met output 0 after shown → CutAt wp script chip after
+  during : {at n next m : ℕ} {met : Device} → SentTo wp script chip at met → recordAt script at ≡ Wait n next → m ≤ n
+      → CutAt wp script chip (poweredUp (waited m met))

@@ -1,0 +1,66 @@
+-- "Program `play` reads a script from standard input" (01, "Sample sessions"): what it prints, each character by its ASCII code.
+use mathlib.Core.Path.{_≡_}
+use mathlib.Core.Bool.{true}
+use mathlib.Core.List.{List, [], _∷_, _++_}
+use mathlib.Core.Logic.{_⊎_}
+use Prim.Native.Nat.{ℕ, _/_, _%_, _≤_}
+use lib.ListN.{length, replicate}
+use Rattle.common.specs.Lists.{tab}
+use Rattle.state.specs.Status.{statusOf}
+use Rattle.state.specs.Time.{passTime}
+use Rattle.script.specs.Record.{Record, frame, wait, encode}
+use Rattle.frame.specs.Device.{Device, device, withState}
+use Rattle.frame.specs.Call.{frameNumber, frameDevice, frameOutput}
+use Rattle.run.specs.Script.{scriptNumber}
+use Rattle.text.specs.Text.{digit}
+use Rattle.listing.specs.Listing.{listing}
+use Rattle.rules.specs.Power.{new05PA}
+use Rattle.rules.specs.Conditions.{ScriptTooLong, BadScript}
+
+-- "a new, erased 05PA"
+unfoldable pub erased05PA : Device
+erased05PA = device new05PA (replicate 65536 0xff)
+
+-- "in capital hex without gaps": two digits a byte, the high one first
+abbrev pub inHex : List ℕ → List ℕ
+inHex [] = []
+inHex (byte ∷ bytes) = digit (byte / 16) ∷ digit (byte % 16) ∷ inHex bytes
+
+-- each record in its turn by its own call, "WP high", and the lines that are printed
+pub data Printed : List Record → Device → List ℕ → Type 0 where
+  -- "One line a frame: F, a space, its output in capital hex without gaps;
+  frame-line : (lent : List ℕ) {f others : List ℕ} {rs : List Record} {d : Device} → length lent ≡ length f → frameNumber true f d lent ≡ 0
+      → Printed rs (frameDevice true f d lent) others
+      → Printed (frame f ∷ rs) d (0x46 ∷ 0x20 ∷ (inHex (frameOutput true f d lent) ++ (0x0a ∷ others)))
+  -- a wait has none
+  no-line : {n : ℕ} {others : List ℕ} {rs : List Record} {d : Device} → passTime (d .state) n .number ≡ 0
+      → Printed rs (withState d (passTime (d .state) n .state)) others → Printed (wait n ∷ rs) d others
+  -- last S, a space, the status."
+  status-line : {d : Device} → Printed [] d (0x53 ∷ 0x20 ∷ (inHex (statusOf (d .state) ∷ []) ++ (0x0a ∷ [])))
+
+-- the script's records, run and printed
+pub record Listed (script : List ℕ) : Type 0 where
+  pub list : List Record
+  pub of-the-script : encode list ≡ script
+  pub printed : Printed list erased05PA (listing script)
+
+-- what is printed, by the number that the call "run a script" gives on that chip
+pub record PlayRules (script : List ℕ) : Type 0 where
+  -- "in capital hex": 0123456789ABCDEF
+  pub digits : tab 16 digit
+      ≡ 0x30 ∷ 0x31 ∷ 0x32 ∷ 0x33 ∷ 0x34 ∷ 0x35 ∷ 0x36 ∷ 0x37 ∷ 0x38 ∷ 0x39 ∷ 0x41 ∷ 0x42 ∷ 0x43 ∷ 0x44 ∷ 0x45 ∷ 0x46 ∷ []
+  -- "reads a script from standard input and runs it on a new, erased 05PA, WP high"
+  pub runs : (output : List ℕ) → scriptNumber true script erased05PA output ≡ 0 → Listed script
+  -- "A refusal is one line: R, a space, the number."
+  pub refused-11 : (output : List ℕ) → scriptNumber true script erased05PA output ≡ 11 → listing script ≡ 0x52 ∷ 0x20 ∷ 0x31 ∷ 0x31 ∷ 0x0a ∷ []
+  pub refused-12 : (output : List ℕ) → scriptNumber true script erased05PA output ≡ 12 → listing script ≡ 0x52 ∷ 0x20 ∷ 0x31 ∷ 0x32 ∷ 0x0a ∷ []
+  -- and the call gives no other number where the outputs have their room
+  pub room : List ℕ
+  pub in-that-room : (scriptNumber true script erased05PA room ≡ 0) ⊎ (scriptNumber true script erased05PA room ≡ 11)
+      ⊎ (scriptNumber true script erased05PA room ≡ 12)
+  -- 11, "script over 32,768", whatever its bytes are
+  pub too-long : ScriptTooLong script → listing script ≡ 0x52 ∷ 0x20 ∷ 0x31 ∷ 0x31 ∷ 0x0a ∷ []
+  -- 12, "some record malformed or cut short"
+  pub bad-record : length script ≤ 32768 → BadScript script → listing script ≡ 0x52 ∷ 0x20 ∷ 0x31 ∷ 0x32 ∷ 0x0a ∷ []
+  -- "empty is a script": "S 00" alone
+  pub empty : script ≡ [] → listing script ≡ 0x53 ∷ 0x20 ∷ 0x30 ∷ 0x30 ∷ 0x0a ∷ []

@@ -1,0 +1,83 @@
+-- Soundness (01, "State"): "A state is sound when", and who keeps it.
+use mathlib.Core.Path.{_≡_}
+use mathlib.Core.Bool.{Bool, true, false}
+use mathlib.Core.List.{List}
+use mathlib.Core.Logic.{_⊎_}
+use Prim.Native.Nat.{ℕ, _%_, _≤_, _<_}
+use Rattle.common.specs.Refusals.{Exactly}
+use Rattle.state.specs.declared.State.{State}
+use Rattle.state.specs.declared.Answer.{Answer}
+use Rattle.state.specs.Protection.{firstProtected}
+use Rattle.state.specs.Soundness.{isSound}
+use Rattle.state.specs.Power.{newChip, powerUp}
+use Rattle.state.specs.Time.{passTime}
+use Rattle.frame.specs.Device.{Device}
+use Rattle.frame.specs.Call.{FrameRun, CutRun}
+use Rattle.run.specs.declared.Ran.{Ran}
+use Rattle.run.specs.Script.{ScriptRun}
+use Rattle.plan.specs.declared.Planned.{Planned}
+use Rattle.plan.specs.Update.{PlanUpdated}
+use Rattle.rules.specs.Chips.{byChip}
+
+pub record SoundState (s : State) : Type 0 where
+  -- "chip number 8 or 5"
+  pub number-8-or-5 : (s .chip ≡ 8) ⊎ (s .chip ≡ 5)
+  -- BP0 to BP2 are three bits (ours)
+  pub bp-three-bits : s .bp < 8
+  -- "left at most 8,000,000 (008A) or 1,000,000 (05PA)"
+  pub left-at-most : s .left ≤ byChip (s .chip) 8000000 1000000
+  -- "BUSY is left above 0, and then WEL is 1
+  pub busy-wel : 0 < s .left → s .wel ≡ true
+  -- and neither armed
+  pub busy-not-armed : 0 < s .left → s .armed ≡ false
+  -- nor power-down holds"
+  pub busy-not-power-down : 0 < s .left → s .«power_down» ≡ false
+  -- "armed and power-down never hold together"
+  pub never-together : s .armed ≡ true → s .«power_down» ≡ true → ⊥
+  -- "on the 05PA armed needs WEL 1"
+  pub armed-needs-wel : s .chip ≡ 5 → s .armed ≡ true → s .wel ≡ true
+  -- "no TB
+  pub no-tb : s .chip ≡ 8 → s .tb ≡ false
+  -- or power-down on the 008A"
+  pub no-power-down : s .chip ≡ 8 → s .«power_down» ≡ false
+  -- "no AAI on the 05PA"
+  pub no-aai : s .chip ≡ 5 → s .aai ≡ false
+  -- "Without AAI the next address is 0."
+  pub without-aai : s .aai ≡ false → s .next ≡ 0
+  -- "With AAI: WEL 1,
+  pub aai-wel : s .aai ≡ true → s .wel ≡ true
+  -- not armed,
+  pub aai-not-armed : s .aai ≡ true → s .armed ≡ false
+  -- left at most 7,
+  pub aai-left-at-most-7 : s .aai ≡ true → s .left ≤ 7
+  -- next even,
+  pub aai-next-even : s .aai ≡ true → s .next % 2 ≡ 0
+  -- at least 2,
+  pub aai-next-at-least-2 : s .aai ≡ true → 2 ≤ s .next
+  -- at most the first protected address
+  pub aai-next-at-most : s .aai ≡ true → s .next ≤ firstProtected s
+  -- and below it when left is 0."
+  pub aai-next-below : s .aai ≡ true → s .left ≡ 0 → s .next < firstProtected s
+
+pub record Soundness (s : State) : Type 0 where
+  -- "A state is sound when": the calls' test says no more and no less
+  pub sound-when : Exactly (isSound s ≡ true) (SoundState s)
+
+-- "Every call returns a sound state from a sound one."
+abbrev pub IsSound : State → Type 0
+IsSound s = isSound s ≡ true
+
+-- of what each call answers, accepted or refused
+pub record EveryCallSound : Type 0 where
+  -- making a chip "gets no state"
+  pub new-chip : (number : ℕ) (answer : Answer) → answer ≡ newChip number → IsSound (answer .state)
+  pub power-up : (s : State) (answer : Answer) → answer ≡ powerUp s → IsSound s → IsSound (answer .state)
+  pub pass-time : (s : State) (n : ℕ) (answer : Answer) → answer ≡ passTime s n → IsSound s → IsSound (answer .state)
+  pub run-frame : (wp : Bool) (f : List ℕ) (d : Device) (output : List ℕ) (number : ℕ) (after : Device) (shown : List ℕ)
+      → FrameRun wp f d output number after shown → IsSound (d .state) → IsSound (after .state)
+  pub run-cut-frame : (wp : Bool) (f mask : List ℕ) (d : Device) (output : List ℕ) (number : ℕ) (after : Device) (shown : List ℕ)
+      → CutRun wp f mask d output number after shown → IsSound (d .state) → IsSound (after .state)
+  pub run-script : (wp : Bool) (script : List ℕ) (d : Device) (output : List ℕ) (ran : Ran) (after : Device) (shown : List ℕ)
+      → ScriptRun wp script d output ran after shown → IsSound (d .state) → IsSound (ran .state) × IsSound (after .state)
+  pub plan-update : (s : State) (wp : Bool) (array : List ℕ) (start : ℕ) (wanted buffer after : List ℕ) (planned : Planned)
+      → PlanUpdated s wp array start wanted buffer after planned → IsSound s → IsSound (planned .state)
