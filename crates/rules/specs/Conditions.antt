@@ -12,7 +12,7 @@ use Rattle.frame.specs.Device.{Device}
 use Rattle.frame.specs.Ran.{maskWanted}
 use Rattle.script.specs.Record.{Record, AllFit, encode, outputLength}
 use Rattle.plan.specs.Plan.{planRecords}
-use Rattle.rules.specs.Chips.{byChip}
+use Rattle.rules.specs.Chips.{bytesOf}
 use Rattle.rules.specs.Soundness.{SoundState}
 
 -- 1: "state not sound, or chip number unknown"
@@ -21,7 +21,7 @@ NotSound s = SoundState s → ⊥
 
 -- the chip's size
 abbrev pub size : State → ℕ
-size s = byChip (s .chip) 1048576 65536
+size s = bytesOf (s .chip)
 
 -- 2: "array length isn't the chip's size"
 abbrev pub WrongArray : State → List ℕ → Type 0

@@ -17,13 +17,13 @@ use Rattle.state.specs.Status.{statusOf}
 use Rattle.command.specs.Fits.{Resting}
 use Rattle.effect.specs.Page.{layDown, blank}
 use Rattle.frame.specs.Device.{Device}
-use Rattle.rules.specs.Chips.{byChip}
+use Rattle.rules.specs.Chips.{byChip, bytesOf}
 use Rattle.rules.specs.Frames.{opcode, Change, unchanged, Does, silent, disarmed, Ignored, isAmong, opcodes008A, opcodes05PA}
 
 -- ---- the words of the rows
 
 abbrev pub sizeOf : Device → ℕ
-sizeOf d = byChip (d .state .chip) 1048576 65536
+sizeOf d = bytesOf (d .state .chip)
 
 -- "Addresses have three bytes, high byte first, taken modulo the chip's size."
 abbrev pub addressIn : List ℕ → Device → ℕ

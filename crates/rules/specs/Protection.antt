@@ -7,7 +7,7 @@ use lib.Dec.{leb, eqb}
 use Rattle.common.specs.Lists.{Each}
 use Rattle.state.specs.declared.State.{State}
 use Rattle.state.specs.Protection.{firstProtected}
-use Rattle.rules.specs.Chips.{byChip}
+use Rattle.rules.specs.Chips.{bytesOf}
 
 -- how much is protected, in the document's words
 pub data Extent : Type 0 where
@@ -57,9 +57,9 @@ rows =
 
 pub record RowHolds (r : Row) (s : State) : Type 0 where
   -- an address of the chip is protected from the first protected one up
-  pub protected : (address : ℕ) → address < byChip (s .chip) 0x100000 0x10000 → leb (firstProtected s) address ≡ isIn (r .extent) address
+  pub protected : (address : ℕ) → address < bytesOf (s .chip) → leb (firstProtected s) address ≡ isIn (r .extent) address
   -- "The first protected address is the size where nothing is protected."
-  pub first : firstProtected s ≡ firstIn (byChip (s .chip) 0x100000 0x10000) (r .extent)
+  pub first : firstProtected s ≡ firstIn (bytesOf (s .chip)) (r .extent)
 
 -- BP0 to BP2 are three bits
 pub record Protection (s : State) (three : s .bp < 8) : Type 0 where

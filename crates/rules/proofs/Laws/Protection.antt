@@ -17,15 +17,12 @@ use Rattle.chip.proofs.Laws.Chip.{chip-of-8, chip-of-5}
 use Rattle.state.specs.declared.State.{State}
 use Rattle.state.specs.Protection.{firstProtectedByLevel, firstProtected}
 use Rattle.state.proofs.Laws.Protection.{first-graded, first-whole}
-use Rattle.rules.specs.Chips.{byChip}
+use Rattle.rules.specs.Chips.{byChip, bytesOf}
 use Rattle.rules.specs.Protection.{Extent, nothing, from, everything, isIn, firstIn, Row, rows, RowHolds, Protection}
 
 -- the first protected address on a chip of the table, by level
 abbrev firstAt : ℕ → ℕ → ℕ
 firstAt chip bp = byChip chip (getD firstProtectedByLevel bp 0) (cond (eqb (bp % 4) 0) 0x10000 0)
-
-abbrev sizeAt : ℕ → ℕ
-sizeAt chip = byChip chip 0x100000 0x10000
 
 -- ---- the test
 
@@ -35,7 +32,7 @@ below test zero = true
 below test (suc n) = below test n && test n
 
 rightAt : Row → ℕ → Bool
-rightAt r bp = not (r .levels bp) || eqb (firstAt (r .chip) bp) (firstIn (sizeAt (r .chip)) (r .extent))
+rightAt r bp = not (r .levels bp) || eqb (firstAt (r .chip) bp) (firstIn (bytesOf (r .chip)) (r .extent))
 
 right : List Row → Bool
 right [] = true
@@ -71,11 +68,11 @@ module _ (s : State) (three : s .bp < 8) where
   holds : (r : Row) → eqb (r .chip) 8 || eqb (r .chip) 5 ≡ true → below (rightAt r) 8 ≡ true → Holds r
   unfolding rightAt
   holds r known e same level =
-      let wanted : ℕ = firstIn (sizeAt (r .chip)) (r .extent) in
+      let wanted : ℕ = firstIn (bytesOf (r .chip)) (r .extent) in
       let here : firstAt (r .chip) (s .bp) ≡ wanted =
       eqb-true (firstAt (r .chip) (s .bp)) wanted (implies-elim (r .levels (s .bp)) (eqb (firstAt (r .chip) (s .bp)) wanted) (below-all (rightAt r) 8 e (s .bp) three) level) in
-      let first : firstProtected s ≡ firstIn (sizeAt (s .chip)) (r .extent) = first-at (r .chip) known same ∙ here ∙ rw same refl in
-      record { protected = λ address h. rw first (first-up (r .extent) (sizeAt (s .chip)) address h); first = first }
+      let first : firstProtected s ≡ firstIn (bytesOf (s .chip)) (r .extent) = first-at (r .chip) known same ∙ here ∙ rw same refl in
+      record { protected = λ address h. rw first (first-up (r .extent) (bytesOf (s .chip)) address h); first = first }
 
   all-hold : (rs : List Row) → right rs ≡ true → Each Holds rs
   unfolding right

@@ -39,7 +39,7 @@ use Rattle.effect.proofs.Laws.Page.{page-struck, page-touches}
 use Rattle.frame.specs.Device.{Device}
 use Rattle.frame.specs.Effect.{effectOf}
 use Rattle.frame.specs.Call.{Accepted}
-use Rattle.rules.specs.Chips.{byChip}
+use Rattle.rules.specs.Chips.{byChip, bytesOf}
 use Rattle.rules.specs.Frames.{Does, silent, disarmed}
 use Rattle.rules.specs.Opcodes.{sizeOf, addressIn, sectorIn, blockIn, wordIn, isOpen, erases, programs, programsPage, Row, Writes}
 use Rattle.rules.proofs.Laws.Chips.{data-by-chip}
@@ -67,7 +67,7 @@ level-open (suc k) =
     ∙ sym (ne-eqb (suc k) 0 (λ e. absurd (omega arith)))
 
 whole-by : (number first : ℕ) (level : Bool) → (number ≡ 8 → leb 1048576 first ≡ level) → (number ≡ 5 → first ≤ 65536) → (number ≡ 8) ⊎ (number ≡ 5)
-    → leb (0 + byChip number 1048576 65536) first ≡ byChip number level (eqb first 65536)
+    → leb (0 + bytesOf number) first ≡ byChip number level (eqb first 65536)
 whole-by number first level on008a on05pa (inl e) = rw e (on008a e)
 whole-by number first level on008a on05pa (inr e) = rw e (all-or-less first (on05pa e))
 
