@@ -3,14 +3,14 @@ use mathlib.Core.Path.{_≡_}
 use mathlib.Core.List.{List}
 use Prim.Native.Nat.{ℕ}
 use Rattle.script.specs.declared.reader.Found.{Found}
-use Rattle.script.specs.Answers.{kindOf, numberOf, nextOf, microsecondsOf, startOf, lengthOf}
+use Rattle.script.specs.Answers.{caseOf, numberOf, nextOf, microsecondsOf, startOf, lengthOf}
 use Rattle.script.specs.Reader.{recordAt, readerKind, readerNumber, readerNext, readerMicroseconds, readerStart, readerLength}
 use Rattle.host.specs.declared.reader.Record.{Record}
 
 abbrev pub recordOf : Found → Record
 recordOf found = record {
   number = numberOf found;
-  kind = kindOf found;
+  kind = caseOf found;
   start = startOf found;
   length = lengthOf found;
   microseconds = microsecondsOf found;

@@ -6,20 +6,11 @@ use mathlib.Core.List.{List}
 use Prim.Native.Nat.{ℕ, _≤_}
 use lib.ListN.{take, drop}
 use Rattle.common.specs.Bits.{Bytes}
-use Rattle.state.specs.Power.{powerUp}
-use Rattle.state.specs.Time.{passTime}
 use Rattle.script.specs.declared.reader.Found.the-variants.{Frame, Wait}
 use Rattle.script.specs.Reader.{recordAt}
-use Rattle.frame.specs.Device.{Device, withState}
+use Rattle.frame.specs.Device.{Device}
 use Rattle.frame.specs.Call.{FrameRun, CutRun}
-
--- so many microseconds pass
-abbrev pub waited : ℕ → Device → Device
-waited n chip = withState chip (passTime (chip .state) n .state)
-
--- the power goes and comes back
-abbrev pub poweredUp : Device → Device
-poweredUp chip = withState chip (powerUp (chip .state) .state)
+use Rattle.powercut.specs.PowerCut.{powered, waited}
 
 -- the offset that the reader has come to, and the chip as it is then
 pub data SentTo (wp : Bool) (script : List ℕ) (chip : Device) : ℕ → Device → Type 0 where
@@ -30,8 +21,8 @@ pub data SentTo (wp : Bool) (script : List ℕ) (chip : Device) : ℕ → Device
 
 -- "Cut the power between any two records, or inside any programming, with any part of the bits due to fall having fallen": the chip powered up
 pub data CutAt (wp : Bool) (script : List ℕ) (chip : Device) : Device → Type 0 where
-  between : {at : ℕ} {met : Device} → SentTo wp script chip at met → CutAt wp script chip (poweredUp met)
+  between : {at : ℕ} {met : Device} → SentTo wp script chip at met → CutAt wp script chip (powered met)
   inside : {at start n next : ℕ} {met after : Device} {mask output shown : List ℕ} → SentTo wp script chip at met → recordAt script at ≡ Frame start n next
       → Bytes mask → CutRun wp (take n (drop start script)) mask met output 0 after shown → CutAt wp script chip after
   during : {at n next m : ℕ} {met : Device} → SentTo wp script chip at met → recordAt script at ≡ Wait n next → m ≤ n
-      → CutAt wp script chip (poweredUp (waited m met))
+      → CutAt wp script chip (powered (waited m met))

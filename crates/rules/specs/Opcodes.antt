@@ -83,7 +83,7 @@ statusWritten byte d =
     false
 
 -- what a frame does if it is taken; "Frames with a wrong length are ignored", and so is one that lacks what it needs
-pub record Row (wp : Bool) (f : List ℕ) (d : Device) (output : List ℕ) (taken : Bool) (does : Type 0) : Type 0 where
+pub record TakenIf (wp : Bool) (f : List ℕ) (d : Device) (output : List ℕ) (taken : Bool) (does : Type 0) : Type 0 where
   pub then : taken ≡ true → does
   pub else : taken ≡ false → Ignored wp f d output
 
@@ -113,51 +113,51 @@ pub record Reads (wp : Bool) (f : List ℕ) (d : Device) (output : List ℕ) : T
 pub record Switches (wp : Bool) (f : List ℕ) (d : Device) (output : List ℕ) : Type 0 where
   -- 06, 1 byte: "WEL 1, armed"
   pub write-enable : Resting (d .state) → opcode f ≡ 0x06
-      → Row wp f d output (eqb (length f) 1) (Does wp f d output silent (withArmed (withWel (d .state) true) true) unchanged)
+      → TakenIf wp f d output (eqb (length f) 1) (Does wp f d output silent (withArmed (withWel (d .state) true) true) unchanged)
   -- 04, 1 byte: "WEL, AAI, next 0"; in AAI too
   pub write-disable : d .state .left ≡ 0 → d .state .«power_down» ≡ false → opcode f ≡ 0x04
-      → Row wp f d output (eqb (length f) 1) (Does wp f d output silent (withAai (withWel (disarmed d) false) false 0) unchanged)
+      → TakenIf wp f d output (eqb (length f) 1) (Does wp f d output silent (withAai (withWel (disarmed d) false) false 0) unchanged)
   -- 50, 1 byte: "armed (008A only)"
   pub enable-status : Resting (d .state) → d .state .chip ≡ 8 → opcode f ≡ 0x50
-      → Row wp f d output (eqb (length f) 1) (Does wp f d output silent (withArmed (d .state) true) unchanged)
+      → TakenIf wp f d output (eqb (length f) 1) (Does wp f d output silent (withArmed (d .state) true) unchanged)
   -- 01, 2 bytes: "taken only if armed, and not if BPL is 1 while WP is low"; "It takes no time."
   pub write-status : Resting (d .state) → opcode f ≡ 0x01
-      → Row wp f d output (eqb (length f) 2 && (d .state .armed && not (d .state .bpl && not wp)))
+      → TakenIf wp f d output (eqb (length f) 2 && (d .state .armed && not (d .state .bpl && not wp)))
       (Does wp f d output silent (statusWritten (getD f 1 0) d) unchanged)
   -- B9, 1 byte: "power-down (05PA)"
   pub power-down : Resting (d .state) → d .state .chip ≡ 5 → opcode f ≡ 0xb9
-      → Row wp f d output (eqb (length f) 1) (Does wp f d output silent (withPowerDown (disarmed d) true) unchanged)
+      → TakenIf wp f d output (eqb (length f) 1) (Does wp f d output silent (withPowerDown (disarmed d) true) unchanged)
 
 -- "Program and erase need WEL 1 and an unprotected target .. They change the array at once and set left"
 pub record Writes (wp : Bool) (f : List ℕ) (d : Device) (output : List ℕ) : Type 0 where
   -- 20, 4 bytes: "sector .. all FF"; "sector 90,000"
   pub sector-erase : Resting (d .state) → opcode f ≡ 0x20
-      → Row wp f d output (eqb (length f) 4 && isOpen d (sectorIn f d) 4096)
+      → TakenIf wp f d output (eqb (length f) 4 && isOpen d (sectorIn f d) 4096)
       (Does wp f d output silent (busyFor 90000 d) (erases (sectorIn f d) 4096))
   -- D8, 4 bytes: "block erase: all FF"; "block 1,000,000 or 750,000 (05PA)"
   pub block-erase : Resting (d .state) → opcode f ≡ 0xd8
-      → Row wp f d output (eqb (length f) 4 && isOpen d (blockIn f d) 65536)
+      → TakenIf wp f d output (eqb (length f) 4 && isOpen d (blockIn f d) 65536)
       (Does wp f d output silent (busyFor (byChip (d .state .chip) 1000000 750000) d) (erases (blockIn f d) 65536))
   -- 60 and C7, 1 byte: "chip erase needs BP 000 on the 008A and nothing protected on the 05PA"; "chip 8,000,000 or 1,000,000"
   pub chip-erase : Resting (d .state) → (op : ℕ) → (op ≡ 0x60) ⊎ (op ≡ 0xc7) → opcode f ≡ op
-      → Row wp f d output
+      → TakenIf wp f d output
       (eqb (length f) 1 && (d .state .wel && byChip (d .state .chip) (eqb (d .state .bp) 0) (eqb (firstProtected (d .state)) 65536)))
       (Does wp f d output silent (busyFor (byChip (d .state .chip) 8000000 1000000) d) (erases 0 (sizeOf d)))
   -- 02 on the 008A, 5 bytes: "one byte"; "byte or word 7"
   pub byte-program : Resting (d .state) → d .state .chip ≡ 8 → opcode f ≡ 0x02
-      → Row wp f d output (eqb (length f) 5 && isOpen d (addressIn f d) 1)
+      → TakenIf wp f d output (eqb (length f) 5 && isOpen d (addressIn f d) 1)
       (Does wp f d output silent (busyFor 7 d) (programs (addressIn f d) 1 4 f))
   -- 02 on the 05PA, "5 or more": "page of 256"; "page 1,500"
   pub page-program : Resting (d .state) → d .state .chip ≡ 5 → opcode f ≡ 0x02
-      → Row wp f d output (leb 5 (length f) && isOpen d (addressIn f d) 1)
+      → TakenIf wp f d output (leb 5 (length f) && isOpen d (addressIn f d) 1)
       (Does wp f d output silent (busyFor 1500 d) (programsPage (addressIn f d) (drop 4 f)))
   -- AD on the 008A, 6 bytes: "address bit 0 is dropped, the word goes to that address and the next, AAI becomes 1, next the address after"
   pub first-word : Resting (d .state) → d .state .chip ≡ 8 → opcode f ≡ 0xad
-      → Row wp f d output (eqb (length f) 6 && isOpen d (wordIn f d) 2)
+      → TakenIf wp f d output (eqb (length f) 6 && isOpen d (wordIn f d) 2)
       (Does wp f d output silent (behindWord (wordIn f d) d) (programs (wordIn f d) 2 4 f))
   -- "in AAI only 3": "AD with 3 bytes goes on at next"
   pub next-word : d .state .left ≡ 0 → d .state .aai ≡ true → opcode f ≡ 0xad
-      → Row wp f d output (eqb (length f) 3 && isOpen d (d .state .next) 2)
+      → TakenIf wp f d output (eqb (length f) 3 && isOpen d (d .state .next) 2)
       (Does wp f d output silent (behindWord (d .state .next) d) (programs (d .state .next) 2 1 f))
 
 -- ---- no frame is left without a rule

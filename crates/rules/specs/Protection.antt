@@ -28,12 +28,12 @@ firstIn size (from first) = first
 firstIn size everything = 0
 
 -- a chip, the levels BP2 BP1 BP0 that are meant, and what they protect
-pub record Row : Type 0 where
+pub record LevelRow : Type 0 where
   pub chip : ℕ
   pub levels : ℕ → Bool
   pub extent : Extent
 
-abbrev row : ℕ → (ℕ → Bool) → Extent → Row
+abbrev row : ℕ → (ℕ → Bool) → Extent → LevelRow
 row chip levels extent = record { chip = chip; levels = levels; extent = extent }
 
 abbrev is : ℕ → ℕ → Bool
@@ -43,8 +43,8 @@ is level bp = eqb bp level
 abbrev bp0Or1 : ℕ → Bool
 bp0Or1 bp = eqb (bp % 2) 1 || eqb (bp / 2 % 2) 1
 
-abbrev pub rows : List Row
-rows =
+abbrev pub levelTable : List LevelRow
+levelTable =
     row 8 (is 0b000) nothing  -- "008A by BP 000 nothing,
     ∷ row 8 (is 0b001) (from 0xf0000)  -- 001 from F0000,
     ∷ row 8 (is 0b010) (from 0xe0000)  -- 010 from E0000,
@@ -55,7 +55,7 @@ rows =
     ∷ row 5 (λ bp. not (bp0Or1 bp)) nothing  -- else nothing; BP2 and TB don't matter."
     ∷ []
 
-pub record RowHolds (r : Row) (s : State) : Type 0 where
+pub record LevelHolds (r : LevelRow) (s : State) : Type 0 where
   -- an address of the chip is protected from the first protected one up
   pub protected : (address : ℕ) → address < bytesOf (s .chip) → leb (firstProtected s) address ≡ isIn (r .extent) address
   -- "The first protected address is the size where nothing is protected."
@@ -63,4 +63,4 @@ pub record RowHolds (r : Row) (s : State) : Type 0 where
 
 -- BP0 to BP2 are three bits
 pub record Protection (s : State) (three : s .bp < 8) : Type 0 where
-  pub each-row : Each (λ r. s .chip ≡ r .chip → r .levels (s .bp) ≡ true → RowHolds r s) rows
+  pub each-row : Each (λ r. s .chip ≡ r .chip → r .levels (s .bp) ≡ true → LevelHolds r s) levelTable

@@ -33,13 +33,13 @@ abbrev pub sent : ℕ → List ℕ → Sent
 sent address bytes = record { address = address; bytes = bytes }
 
 -- a byte for this address is among them
-abbrev pub Holds : Sent → ℕ → Type 0
-Holds x address = (x .address ≤ address) × (address < x .address + length (x .bytes))
+abbrev pub Covers : Sent → ℕ → Type 0
+Covers x address = (x .address ≤ address) × (address < x .address + length (x .bytes))
 
 -- one of these has a byte for it
 abbrev pub HeldBy : List Sent → ℕ → Type 0
 HeldBy [] address = ⊥
-HeldBy (x ∷ xs) address = Holds x address ⊎ HeldBy xs address
+HeldBy (x ∷ xs) address = Covers x address ⊎ HeldBy xs address
 
 -- each of its bytes as wanted
 abbrev pub SentAsWanted : ℕ → List ℕ → Sent → Type 0

@@ -6,11 +6,11 @@ use Rattle.script.specs.declared.reader.Found.{Found}
 use Rattle.script.specs.declared.reader.Found.the-variants.{Frame, Wait, End, Refused}
 
 -- which answer it is (ours): 0 a refusal, 1 a frame, 2 a wait, 3 "end"
-abbrev pub kindOf : Found → ℕ
-kindOf (Frame start n next) = 1
-kindOf (Wait microseconds next) = 2
-kindOf (End next) = 3
-kindOf (Refused number next) = 0
+abbrev pub caseOf : Found → ℕ
+caseOf (Frame start n next) = 1
+caseOf (Wait microseconds next) = 2
+caseOf (End next) = 3
+caseOf (Refused number next) = 0
 
 -- the number: "an accepted call's number is 0"
 abbrev pub numberOf : Found → ℕ

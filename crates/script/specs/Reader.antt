@@ -12,7 +12,7 @@ use Rattle.common.specs.Refusals.{scriptTooLong}
 use Rattle.script.specs.Decode.{cutShort, faultNumber, Front, end, item, malformed, front}
 use Rattle.script.specs.declared.reader.Found.{Found}
 use Rattle.script.specs.declared.reader.Found.the-variants.{Frame, Wait, End, Refused}
-use Rattle.script.specs.Answers.{kindOf, numberOf, nextOf, microsecondsOf, startOf, lengthOf, partOf}
+use Rattle.script.specs.Answers.{caseOf, numberOf, nextOf, microsecondsOf, startOf, lengthOf, partOf}
 
 -- the number of the two bytes from an index on, "high first"
 abbrev pub twoBytesAt : List ℕ → ℕ → ℕ
@@ -25,8 +25,8 @@ fourBytesAt bytes at = twoBytesAt bytes at * 65536 + twoBytesAt bytes (at + 2)
 -- ---- the answer
 
 -- in the order checked: 11 for a script over 32,768; 12 for "an offset past the end"; then by what stands at the offset
-abbrev pub readAt : {A : Type 0} → (ℕ → A) → (Front → A) → List ℕ → ℕ → A
-readAt refused told script offset =
+abbrev pub readInOrder : {A : Type 0} → (ℕ → A) → (Front → A) → List ℕ → ℕ → A
+readInOrder refused told script offset =
     cond (ltb longestScript (length script)) (refused scriptTooLong)
     (cond (ltb (length script) offset) (refused (faultNumber cutShort)) (told (front (drop offset script))))
 
@@ -39,7 +39,7 @@ answer offset (malformed fault) = Refused (faultNumber fault) offset
 
 -- "the frame or the wait of the record there with the next offset, or "end" where the offset is the script's length"
 unfoldable pub recordAt : List ℕ → ℕ → Found
-recordAt script offset = readAt (λ number. Refused number offset) (answer offset) script offset
+recordAt script offset = readInOrder (λ number. Refused number offset) (answer offset) script offset
 
 -- ---- its values, by what stands at the offset
 
@@ -50,7 +50,7 @@ frontKind (item (wait microseconds) rest) = 2
 frontKind (malformed fault) = 0
 
 unfoldable pub readerKind : List ℕ → ℕ → ℕ
-readerKind = readAt (λ number. 0) frontKind
+readerKind = readInOrder (λ number. 0) frontKind
 
 abbrev pub frontNumber : Front → ℕ
 frontNumber end = 0
@@ -59,7 +59,7 @@ frontNumber (malformed fault) = faultNumber fault
 
 -- the reader's number: 12 is for "the record at the offset" too
 unfoldable pub readerNumber : List ℕ → ℕ → ℕ
-readerNumber = readAt (λ number. number) frontNumber
+readerNumber = readInOrder (λ number. number) frontNumber
 
 abbrev pub frontNext : ℕ → Front → ℕ
 frontNext offset end = offset
@@ -68,7 +68,7 @@ frontNext offset (malformed fault) = offset
 
 -- "with the next offset"; a refusal and "end" give the given one
 unfoldable pub readerNext : List ℕ → ℕ → ℕ
-readerNext script offset = readAt (λ number. offset) (frontNext offset) script offset
+readerNext script offset = readInOrder (λ number. offset) (frontNext offset) script offset
 
 abbrev pub frontMicroseconds : Front → ℕ
 frontMicroseconds end = 0
@@ -78,7 +78,7 @@ frontMicroseconds (malformed fault) = 0
 
 -- "the wait of the record there"
 unfoldable pub readerMicroseconds : List ℕ → ℕ → ℕ
-readerMicroseconds = readAt (λ number. 0) frontMicroseconds
+readerMicroseconds = readInOrder (λ number. 0) frontMicroseconds
 
 abbrev pub frontStart : ℕ → Front → ℕ
 frontStart offset end = 0
@@ -88,7 +88,7 @@ frontStart offset (malformed fault) = 0
 
 -- where the frame starts: behind its mark and its length
 unfoldable pub readerStart : List ℕ → ℕ → ℕ
-readerStart script offset = readAt (λ number. 0) (frontStart offset) script offset
+readerStart script offset = readInOrder (λ number. 0) (frontStart offset) script offset
 
 abbrev pub frontLength : Front → ℕ
 frontLength end = 0
@@ -98,7 +98,7 @@ frontLength (malformed fault) = 0
 
 -- and how long it is
 unfoldable pub readerLength : List ℕ → ℕ → ℕ
-readerLength = readAt (λ number. 0) frontLength
+readerLength = readInOrder (λ number. 0) frontLength
 
 abbrev pub frontPart : Front → List ℕ
 frontPart end = []
@@ -108,12 +108,12 @@ frontPart (malformed fault) = []
 
 -- "the reader gives a frame back as that part of the caller's script"
 unfoldable pub framePart : List ℕ → ℕ → List ℕ
-framePart = readAt (λ number. []) frontPart
+framePart = readInOrder (λ number. []) frontPart
 
 -- the reader's promise: its answer, and each value of it
 pub record Answered (script : List ℕ) (offset : ℕ) (found : Found) : Type 0 where
   pub answer-is : found ≡ recordAt script offset
-  pub kind-is : kindOf found ≡ readerKind script offset
+  pub kind-is : caseOf found ≡ readerKind script offset
   pub number-is : numberOf found ≡ readerNumber script offset
   pub next-is : nextOf found ≡ readerNext script offset
   pub microseconds-are : microsecondsOf found ≡ readerMicroseconds script offset

@@ -1,21 +1,20 @@
 -- What becomes of armed: only a taken 06, and on the F25L008A a taken 50, leaves it 1.
 -- Assumes nothing.
 use mathlib.Core.Path.{_≡_, refl, sym, ap, _∙_}
-use mathlib.Core.Bool.{Bool, true, false, _&&_, _||_, not, true≢false}
+use mathlib.Core.Bool.{Bool, true, false, _&&_, _||_, not, true≢false, false≢true}
 use mathlib.Core.List.{List, [], _∷_}
 use mathlib.Core.Logic.{⊎-elim}
 use Prim.Native.Nat.{ℕ, _+_, _-_, _*_, _/_}
 use lib.Dec.{leb, eqb}
 use lib.ListN.{length, getD}
-use borrow.Author.Tests.{lt-ltb, eqb-true, eqb-false, eq-eqb, not-true}
+use borrow.Author.Tests.{lt-ltb, eqb-true, eqb-false}
 use Rattle.common.proofs.Laws.Choice.{cond-elim, cases}
-use Rattle.common.proofs.Laws.Booleans.{and-l, and-r, implies-elim}
+use Rattle.common.proofs.Laws.Booleans.{and-l, and-r, or-imp, or-none-i, implies-elim}
 use Rattle.common.proofs.Laws.Pairs.{_▹_}
-use Rattle.chip.specs.declared.Chip.{Chip}
-use Rattle.chip.specs.Kinds.{unknown, wren, ewsr}
+use Rattle.chip.specs.Kinds.{wren, ewsr}
 use Rattle.chip.specs.Instructions.{instructions008A, instructions05PA, kindIn}
 use Rattle.chip.specs.Chip.{kindOf}
-use Rattle.chip.proofs.Laws.Chip.{regular, known-number}
+use Rattle.chip.proofs.Laws.Chip.{known-number}
 use Rattle.state.specs.State.{dataOf}
 use Rattle.command.specs.declared.Command.{Command}
 use Rattle.command.specs.declared.Command.the-variants.{
@@ -41,32 +40,50 @@ use Rattle.frame.specs.Call.{Accepted, frameDevice}
 use Rattle.frame.proofs.Laws.Ran.{ran-is}
 use Rattle.rules.specs.Chips.{byChip}
 use Rattle.rules.specs.Frames.{opcode, isResting, isAmong}
-use Rattle.rules.proofs.Laws.Chips.{data-by-chip, kind-by-chip}
+use Rattle.rules.proofs.Laws.Chips.{kind-by-chip}
 use Rattle.rules.proofs.Laws.Does.{done, by-mode}
-
--- ---- two tests
-
-and-yes : (a : Bool) {b : Bool} → b ≡ true → a && b ≡ a
-and-yes true e = e
-and-yes false e = refl
+use Rattle.rules.proofs.Laws.Tests.{off}
 
 and-no : (a : Bool) {b : Bool} → b ≡ false → a && b ≡ false
 and-no true e = e
 and-no false e = refl
 
--- ---- the one opcode of a kind
+-- ---- the opcodes that arm
 
-abbrev isOnly : List (ℕ × ℕ) → ℕ → ℕ → Bool
-isOnly [] kind known = not (eqb unknown kind)
-isOnly (i ∷ is) kind known = (not (eqb (i .1) kind) || eqb (i .0) known) && isOnly is kind known
+isArming : ℕ → Bool
+isArming kind = eqb kind wren || eqb kind ewsr
 
-only : (is : List (ℕ × ℕ)) (kind known op : ℕ) → isOnly is kind known ≡ true → kindIn is op ≡ kind → op ≡ known
-only [] kind known op one = λ e. absurd (true≢false (sym (eq-eqb unknown kind e) ∙ not-true (eqb unknown kind) one))
-only (i ∷ is) kind known op one =
-    let here = and-l (not (eqb (i .1) kind) || eqb (i .0) known) (isOnly is kind known) one in
-    cond-elim (λ (found : ℕ). found ≡ kind → op ≡ known) (eqb op (i .0))
-    (λ t e. eqb-true op (i .0) t ∙ eqb-true (i .0) known (implies-elim (eqb (i .1) kind) (eqb (i .0) known) here (eq-eqb (i .1) kind e)))
-    (λ _. only is kind known op (and-r (not (eqb (i .1) kind) || eqb (i .0) known) (isOnly is kind known) one))
+-- every instruction of an arming kind has its opcode among some
+abbrev areListed : List (ℕ × ℕ) → List ℕ → Bool
+areListed [] list = true
+areListed (i ∷ is) list = (not (isArming (i .1)) || isAmong (i .0) list) && areListed is list
+
+listed : (is : List (ℕ × ℕ)) (list : List ℕ) (op : ℕ) → areListed is list ≡ true → isArming (kindIn is op) ≡ true → isAmong op list ≡ true
+unfolding isArming
+listed [] list op all = λ e. absurd (false≢true e)
+listed (i ∷ is) list op all =
+    let here = and-l (not (isArming (i .1)) || isAmong (i .0) list) (areListed is list) all in
+    cond-elim (λ (found : ℕ). isArming found ≡ true → isAmong op list ≡ true) (eqb op (i .0))
+    (λ t e. ap (λ (n : ℕ). isAmong n list) (eqb-true op (i .0) t) ∙ implies-elim (isArming (i .1)) (isAmong (i .0) list) here e)
+    (λ _. listed is list op (and-r (not (isArming (i .1)) || isAmong (i .0) list) (areListed is list) all))
+
+-- and each of those arms
+abbrev allArm : List (ℕ × ℕ) → List ℕ → Bool
+allArm is [] = true
+allArm is (known ∷ others) = isArming (kindIn is known) && allArm is others
+
+arming : (is : List (ℕ × ℕ)) (list : List ℕ) (op : ℕ) → allArm is list ≡ true → isAmong op list ≡ true → isArming (kindIn is op) ≡ true
+arming is [] op all e = absurd (false≢true e)
+arming is (known ∷ others) op all e =
+    cases (eqb op known)
+    (λ t. ap (λ (n : ℕ). isArming (kindIn is n)) (eqb-true op known t) ∙ and-l (isArming (kindIn is known)) (allArm is others) all)
+    (λ t. arming is others op (and-r (isArming (kindIn is known)) (allArm is others) all) (or-imp (eqb op known) (isAmong op others) e t))
+
+-- a chip's instructions and its arming opcodes, both computed
+arms-exactly : (is : List (ℕ × ℕ)) (list : List ℕ) (op : ℕ) → areListed is list ≡ true → allArm is list ≡ true → isArming (kindIn is op) ≡ isAmong op list
+arms-exactly is list op all each =
+    cases (isAmong op list) (λ t. arming is list op each t ∙ sym t)
+    (λ t. off (isArming (kindIn is op)) (λ e. true≢false (sym (listed is list op all e) ∙ t)) ∙ sym t)
 
 module _ {wp : Bool} {f : List ℕ} {d : Device} {output : List ℕ} (a : Accepted wp f d output) where
   armed-after : frameDevice wp f d output .state .armed ≡ arms (commandOf (d .state) wp f)
@@ -81,9 +98,6 @@ module _ {wp : Bool} {f : List ℕ} {d : Device} {output : List ℕ} (a : Accept
   perhaps c t quiet = cond-elim Quiet t (λ _. quiet) (λ _. refl)
 
   module _ (r : Resting (d .state)) where
-    seen : (kind : ℕ) → kindOf (d .state .chip) (opcode f) ≡ kind → commandOf (d .state) wp f ≡ look (rows (d .state) wp f) kind
-    seen kind e = seen-at-rest (d .state) f wp r ∙ ap (look (rows (d .state) wp f)) e
-
     rows-quiet : (kind : ℕ) → (kind ≡ wren → ⊥) → (kind ≡ ewsr → ⊥) → AllRows Quiet kind (rows (d .state) wp f)
     rows-quiet kind not-wren not-ewsr =
         let s = d .state in
@@ -107,50 +121,30 @@ module _ {wp : Bool} {f : List ℕ} {d : Device} {output : List ℕ} (a : Accept
         ▹ (λ _. refl)
         ▹ tt
 
-    quiet-at-rest : (kindOf (d .state .chip) (opcode f) ≡ wren → ⊥) → (kindOf (d .state .chip) (opcode f) ≡ ewsr → ⊥) → Quiet (commandOf (d .state) wp f)
-    quiet-at-rest not-wren not-ewsr =
-        ap arms (seen-at-rest (d .state) f wp r)
-        ∙ look-elim Quiet refl (rows (d .state) wp f) (kindOf (d .state .chip) (opcode f)) (rows-quiet _ not-wren not-ewsr)
+    -- the row of a kind
+    armed-by-kind : (kind : ℕ) → arms (look (rows (d .state) wp f) kind) ≡ (eqb (length f) 1 && isArming kind)
+    unfolding isArming
+    armed-by-kind kind =
+        cases (eqb kind wren) (λ e. rw (eqb-true kind wren e) (taken WriteEnable refl))
+        (λ no-wren. cases (eqb kind ewsr) (λ e. rw (eqb-true kind ewsr e) (taken Arm refl))
+        (λ no-ewsr. look-elim Quiet refl (rows (d .state) wp f) kind (rows-quiet kind (eqb-false kind wren no-wren) (eqb-false kind ewsr no-ewsr))
+        ∙ sym (and-no (eqb (length f) 1) (or-none-i no-wren no-ewsr))))
+      where
+        taken : (c : Command) → arms c ≡ true → arms (when (long f 1) c) ≡ (eqb (length f) 1 && true)
+        taken c sets = cases (long f 1) (λ t. rw t sets) (λ t. rw t refl)
 
-    arming : (c : Command) → arms c ≡ true → commandOf (d .state) wp f ≡ when (long f 1) c → arms (commandOf (d .state) wp f) ≡ eqb (length f) 1
-    arming c sets e = ap arms e ∙ cases (long f 1) (λ t. rw t sets) (λ t. rw t refl)
-
-    -- one of the opcodes that arm, or none of them
-    armed-by : (list : List ℕ) (c : Command) → isAmong (opcode f) list ≡ true → arms c ≡ true → commandOf (d .state) wp f ≡ when (long f 1) c
-        → arms (commandOf (d .state) wp f) ≡ (eqb (length f) 1 && isAmong (opcode f) list)
-    armed-by list c listed sets e = arming c sets e ∙ sym (and-yes (eqb (length f) 1) listed)
-
-    armed-by-none : (list : List ℕ) → isAmong (opcode f) list ≡ false → Quiet (commandOf (d .state) wp f)
-        → arms (commandOf (d .state) wp f) ≡ (eqb (length f) 1 && isAmong (opcode f) list)
-    armed-by-none list other quiet = quiet ∙ sym (and-no (eqb (length f) 1) other)
-
-    armed-008a : d .state .chip ≡ 8 → arms (commandOf (d .state) wp f) ≡ (eqb (length f) 1 && isAmong (opcode f) (0x06 ∷ 0x50 ∷ []))
-    armed-008a e =
-        let kind : kindOf (d .state .chip) (opcode f) ≡ kindIn instructions008A (opcode f) =
-        kind-by-chip (d .state .chip) (a .sound .chip-known) (opcode f) ∙ rw e refl in
-        cases (eqb (opcode f) 0x06)
-        (λ six. armed-by (0x06 ∷ 0x50 ∷ []) WriteEnable (rw six refl) refl (seen wren (kind ∙ ap (kindIn instructions008A) (eqb-true (opcode f) 0x06 six))))
-        (λ other. cases (eqb (opcode f) 0x50)
-        (λ fifty. armed-by (0x06 ∷ 0x50 ∷ []) Arm (rw (other, fifty) refl) refl (seen ewsr (kind ∙ ap (kindIn instructions008A) (eqb-true (opcode f) 0x50 fifty))))
-        (λ another. armed-by-none (0x06 ∷ 0x50 ∷ []) (rw (other, another) refl)
-        (quiet-at-rest (λ k. eqb-false (opcode f) 0x06 other (only instructions008A wren 0x06 (opcode f) refl (sym kind ∙ k)))
-        (λ k. eqb-false (opcode f) 0x50 another (only instructions008A ewsr 0x50 (opcode f) refl (sym kind ∙ k))))))
-
-    armed-05pa : d .state .chip ≡ 5 → arms (commandOf (d .state) wp f) ≡ (eqb (length f) 1 && isAmong (opcode f) (0x06 ∷ []))
-    armed-05pa e =
-        let kind : kindOf (d .state .chip) (opcode f) ≡ kindIn instructions05PA (opcode f) =
-        kind-by-chip (d .state .chip) (a .sound .chip-known) (opcode f) ∙ rw e refl in
-        cases (eqb (opcode f) 0x06)
-        (λ six. armed-by (0x06 ∷ []) WriteEnable (rw six refl) refl (seen wren (kind ∙ ap (kindIn instructions05PA) (eqb-true (opcode f) 0x06 six))))
-        (λ other. armed-by-none (0x06 ∷ []) (rw other refl)
-        (quiet-at-rest (λ k. eqb-false (opcode f) 0x06 other (only instructions05PA wren 0x06 (opcode f) refl (sym kind ∙ k)))
-        (λ k. absurd (true≢false (sym (regular (d .state .chip) .ewsr-needs-ewsr (opcode f) k)
-        ∙ data-by-chip (d .state .chip) (a .sound .chip-known) (λ (c : Chip). c .ewsr) ∙ rw e refl)))))
+    arming-opcode : isArming (kindOf (d .state .chip) (opcode f)) ≡ isAmong (opcode f) (byChip (d .state .chip) (0x06 ∷ 0x50 ∷ []) (0x06 ∷ []))
+    unfolding isArming
+    arming-opcode =
+        let known = a .sound .chip-known in
+        ap isArming (kind-by-chip (d .state .chip) known (opcode f))
+        ∙ ⊎-elim (λ e. rw e (arms-exactly instructions008A (0x06 ∷ 0x50 ∷ []) (opcode f) refl refl))
+        (λ e. rw e (arms-exactly instructions05PA (0x06 ∷ []) (opcode f) refl refl)) (known-number (d .state .chip) known)
 
     armed-at-rest : arms (commandOf (d .state) wp f)
         ≡ (eqb (length f) 1 && isAmong (opcode f) (byChip (d .state .chip) (0x06 ∷ 0x50 ∷ []) (0x06 ∷ [])))
     armed-at-rest =
-        ⊎-elim (λ e. armed-008a e ∙ rw e refl) (λ e. armed-05pa e ∙ rw e refl) (known-number (d .state .chip) (a .sound .chip-known))
+        ap arms (seen-at-rest (d .state) f wp r) ∙ armed-by-kind (kindOf (d .state .chip) (opcode f)) ∙ ap (λ (b : Bool). eqb (length f) 1 && b) arming-opcode
 
   pub armed-is : frameDevice wp f d output .state .armed
       ≡ (isResting (d .state) && eqb (length f) 1 && isAmong (opcode f) (byChip (d .state .chip) (0x06 ∷ 0x50 ∷ []) (0x06 ∷ [])))

@@ -10,13 +10,13 @@ use lib.ListN.{length}
 use Rattle.common.specs.Lists.{Each}
 use Rattle.common.proofs.Laws.Lists.{split}
 use Rattle.script.specs.Record.{Record}
-use Rattle.rules.specs.Sent.{Changing, Sent, sent, Holds, HeldBy, SentAsWanted}
+use Rattle.rules.specs.Sent.{Changing, Sent, sent, Covers, HeldBy, SentAsWanted}
 use Rattle.rules.specs.PlanPages.{PagesSaid, sends, ends, PagesRise, lastOf, FirstToLast, PagesStep}
 use Rattle.rules.proofs.Laws.Sent.{addressed-determined}
 
 module _ (array : List ℕ) (start : ℕ) (wanted : List ℕ) where
   -- a byte of a part is of the part's page
-  page-of : (x : Sent) → FirstToLast array start wanted x → (k : ℕ) → Holds x k → k / 256 ≡ x .address / 256
+  page-of : (x : Sent) → FirstToLast array start wanted x → (k : ℕ) → Covers x k → k / 256 ≡ x .address / 256
   page-of x f k held = omega (arith, f .one-page, f .some, held .0, held .1)
 
   held-from : (page : ℕ) (parts : List Sent) → PagesRise page parts → Each (FirstToLast array start wanted) parts → (k : ℕ) → HeldBy parts k → page ≤ k / 256
@@ -44,7 +44,7 @@ module _ (array : List ℕ) (start : ℕ) (wanted : List ℕ) where
 
   -- the first part holds each change of its page and of those before
   first-holds : {page : ℕ} (x : Sent) {xs : List Sent} → PartsFrom page (x ∷ xs) → (k : ℕ) → page ≤ k / 256 → k / 256 ≤ x .address / 256
-      → Changing array start wanted k → Holds x k
+      → Changing array start wanted k → Covers x k
   first-holds x {xs} f k h l c =
       ⊎-elim (λ here. here)
       (λ there. absurd (omega (arith, held-from (suc (x .address / 256)) xs (f .rising .1) (f .from-first-to-last .1) k there)))

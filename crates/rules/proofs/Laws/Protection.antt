@@ -18,7 +18,7 @@ use Rattle.state.specs.declared.State.{State}
 use Rattle.state.specs.Protection.{firstProtectedByLevel, firstProtected}
 use Rattle.state.proofs.Laws.Protection.{first-graded, first-whole}
 use Rattle.rules.specs.Chips.{byChip, bytesOf}
-use Rattle.rules.specs.Protection.{Extent, nothing, from, everything, isIn, firstIn, Row, rows, RowHolds, Protection}
+use Rattle.rules.specs.Protection.{Extent, nothing, from, everything, isIn, firstIn, LevelRow, levelTable, LevelHolds, Protection}
 
 -- the first protected address on a chip of the table, by level
 abbrev firstAt : ℕ → ℕ → ℕ
@@ -31,14 +31,14 @@ abbrev below : (ℕ → Bool) → ℕ → Bool
 below test zero = true
 below test (suc n) = below test n && test n
 
-rightAt : Row → ℕ → Bool
+rightAt : LevelRow → ℕ → Bool
 rightAt r bp = not (r .levels bp) || eqb (firstAt (r .chip) bp) (firstIn (bytesOf (r .chip)) (r .extent))
 
-right : List Row → Bool
+right : List LevelRow → Bool
 right [] = true
 right (r ∷ rs) = (eqb (r .chip) 8 || eqb (r .chip) 5) && below (rightAt r) 8 && right rs
 
-computed : right rows ≡ true
+computed : right levelTable ≡ true
 unfolding right rightAt
 computed = refl
 
@@ -62,10 +62,10 @@ module _ (s : State) (three : s .bp < 8) where
       (λ t. let is : s .chip ≡ 5 = same ∙ eqb-true chip 5 (or-imp (eqb chip 8) (eqb chip 5) known t) in
       first-whole s (rw (is, chip-of-5) refl) ∙ rw (t, is, chip-of-5) refl)
 
-  abbrev Holds : Row → Type 0
-  Holds r = s .chip ≡ r .chip → r .levels (s .bp) ≡ true → RowHolds r s
+  abbrev Holds : LevelRow → Type 0
+  Holds r = s .chip ≡ r .chip → r .levels (s .bp) ≡ true → LevelHolds r s
 
-  holds : (r : Row) → eqb (r .chip) 8 || eqb (r .chip) 5 ≡ true → below (rightAt r) 8 ≡ true → Holds r
+  holds : (r : LevelRow) → eqb (r .chip) 8 || eqb (r .chip) 5 ≡ true → below (rightAt r) 8 ≡ true → Holds r
   unfolding rightAt
   holds r known e same level =
       let wanted : ℕ = firstIn (bytesOf (r .chip)) (r .extent) in
@@ -74,7 +74,7 @@ module _ (s : State) (three : s .bp < 8) where
       let first : firstProtected s ≡ firstIn (bytesOf (s .chip)) (r .extent) = first-at (r .chip) known same ∙ here ∙ rw same refl in
       record { protected = λ address h. rw first (first-up (r .extent) (bytesOf (s .chip)) address h); first = first }
 
-  all-hold : (rs : List Row) → right rs ≡ true → Each Holds rs
+  all-hold : (rs : List LevelRow) → right rs ≡ true → Each Holds rs
   unfolding right
   all-hold [] e = tt
   all-hold (r ∷ rs) e =
@@ -83,4 +83,4 @@ module _ (s : State) (three : s .bp < 8) where
       (holds r (and-l known (below (rightAt r) 8) two) (and-r known (below (rightAt r) 8) two), all-hold rs (and-r (known && below (rightAt r) 8) (right rs) e))
 
   pub protection : Protection s three
-  protection = record { each-row = all-hold rows computed }
+  protection = record { each-row = all-hold levelTable computed }

@@ -18,7 +18,7 @@ use Rattle.frame.specs.Device.{Device}
 use Rattle.frame.specs.Call.{Accepted}
 use Rattle.rules.specs.Chips.{byChip}
 use Rattle.rules.specs.Frames.{opcode}
-use Rattle.rules.specs.Opcodes.{sizeOf, addressIn, Row}
+use Rattle.rules.specs.Opcodes.{sizeOf, addressIn, TakenIf}
 use Rattle.rules.proofs.Laws.Chips.{data-by-chip, kind-by-chip, same-by-chip}
 use Rattle.rules.proofs.Laws.Does.{ignored}
 
@@ -61,7 +61,7 @@ module _ {wp : Bool} {f : List ℕ} {d : Device} {output : List ℕ} (a : Accept
 
   -- taken by a test
   pub row : {t test : Bool} {c : Command} {outcome : Type 0} → commandOf (d .state) wp f ≡ when t c → t ≡ test → (commandOf (d .state) wp f ≡ c → outcome)
-      → Row wp f d output test outcome
+      → TakenIf wp f d output test outcome
   row {t} {test} {c} e same taken = record {
     then = λ h. taken (e ∙ ap (λ (b : Bool). when b c) (same ∙ h));
     else = λ h. ignored a (e ∙ ap (λ (b : Bool). when b c) (same ∙ h));

@@ -41,7 +41,7 @@ use Rattle.frame.specs.Effect.{effectOf}
 use Rattle.frame.specs.Call.{Accepted}
 use Rattle.rules.specs.Chips.{byChip, bytesOf}
 use Rattle.rules.specs.Frames.{Does, silent, disarmed}
-use Rattle.rules.specs.Opcodes.{sizeOf, addressIn, sectorIn, blockIn, wordIn, isOpen, erases, programs, programsPage, Row, Writes}
+use Rattle.rules.specs.Opcodes.{sizeOf, addressIn, sectorIn, blockIn, wordIn, isOpen, erases, programs, programsPage, TakenIf, Writes}
 use Rattle.rules.proofs.Laws.Chips.{data-by-chip}
 use Rattle.rules.proofs.Laws.Does.{Changes, does}
 use Rattle.rules.proofs.Laws.Rows.{when-both, size-is, address-in, kind-of-both, kind-of-one, seen, row}
@@ -110,7 +110,7 @@ module _ {wp : Bool} {f : List ℕ} {d : Device} {output : List ℕ} (a : Accept
   -- a test on the length, and one on the target
   row-open : {c : Command} {outcome : Type 0} (long : Bool) (address n : ℕ)
       → commandOf (d .state) wp f ≡ when long (when (writable (d .state) (address + n)) c) → (commandOf (d .state) wp f ≡ c → outcome)
-      → Row wp f d output (long && isOpen d address n) outcome
+      → TakenIf wp f d output (long && isOpen d address n) outcome
   row-open {c} long address n e =
       row a (e ∙ when-both long (writable (d .state) (address + n)) c) (ap (λ (b : Bool). long && b) (writable-is (d .state) f (address + n)))
 

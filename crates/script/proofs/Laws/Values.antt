@@ -15,8 +15,8 @@ use Rattle.script.specs.Record.{frame, wait}
 use Rattle.script.specs.Decode.{cutShort, faultNumber, Fault, Front, end, item, malformed, front}
 use Rattle.script.specs.declared.reader.Found.{Found}
 use Rattle.script.specs.declared.reader.Found.the-variants.{Frame, Wait, End, Refused}
-use Rattle.script.specs.Answers.{kindOf, numberOf, nextOf, microsecondsOf, startOf, lengthOf, partOf}
-use Rattle.script.specs.Reader.{readAt, answer, recordAt, frontKind, readerKind, frontNumber, readerNumber, frontNext, readerNext, frontMicroseconds, readerMicroseconds, frontStart, readerStart, frontLength, readerLength, frontPart, framePart, Answered}
+use Rattle.script.specs.Answers.{caseOf, numberOf, nextOf, microsecondsOf, startOf, lengthOf, partOf}
+use Rattle.script.specs.Reader.{readInOrder, answer, recordAt, frontKind, readerKind, frontNumber, readerNumber, frontNext, readerNext, frontMicroseconds, readerMicroseconds, frontStart, readerStart, frontLength, readerLength, frontPart, framePart, Answered}
 use Rattle.script.proofs.Laws.Answers.{stands, frame-bytes}
 
 module _ (script : List ℕ) (offset : ℕ) where
@@ -41,7 +41,7 @@ module _ (script : List ℕ) (offset : ℕ) where
       → value (answer offset end) ≡ told end
       → ((bytes rest : List ℕ) → front (drop offset script) ≡ item (frame bytes) rest → value (answer offset (item (frame bytes) rest)) ≡ told (item (frame bytes) rest))
       → ((n : ℕ) (rest : List ℕ) → value (answer offset (item (wait n) rest)) ≡ told (item (wait n) rest))
-      → ((fault : Fault) → value (answer offset (malformed fault)) ≡ told (malformed fault)) → value (recordAt script offset) ≡ readAt refused told script offset
+      → ((fault : Fault) → value (answer offset (malformed fault)) ≡ told (malformed fault)) → value (recordAt script offset) ≡ readInOrder refused told script offset
   unfolding recordAt
   read-value value refused told r e f w m = by-tests (ltb longestScript (length script)) (ltb (length script) offset)
     where
@@ -58,9 +58,9 @@ module _ (script : List ℕ) (offset : ℕ) where
       by-tests false true = r (faultNumber cutShort)
       by-tests false false = by-front (front (drop offset script)) refl
 
-  record-at-kind : kindOf (recordAt script offset) ≡ readerKind script offset
+  record-at-kind : caseOf (recordAt script offset) ≡ readerKind script offset
   unfolding readerKind
-  record-at-kind = read-value kindOf (λ _. 0) frontKind (λ _. refl) refl (λ _ _ _. refl) (λ _ _. refl) (λ _. refl)
+  record-at-kind = read-value caseOf (λ _. 0) frontKind (λ _. refl) refl (λ _ _ _. refl) (λ _ _. refl) (λ _. refl)
 
   pub record-at-number : numberOf (recordAt script offset) ≡ readerNumber script offset
   unfolding readerNumber
@@ -91,7 +91,7 @@ module _ (script : List ℕ) (offset : ℕ) where
   pub record-at-answered : {found : Found} → found ≡ recordAt script offset → Answered script offset found
   record-at-answered e = record {
     answer-is = e;
-    kind-is = ap kindOf e ∙ record-at-kind;
+    kind-is = ap caseOf e ∙ record-at-kind;
     number-is = ap numberOf e ∙ record-at-number;
     next-is = ap nextOf e ∙ record-at-next;
     microseconds-are = ap microsecondsOf e ∙ record-at-microseconds;
