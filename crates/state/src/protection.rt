@@ -1,29 +1,28 @@
-// Which addresses are protected: those from the first protected one up, by the bits BP2 BP1 BP0.
+// Which addresses are protected: those from the first protected one up, by the level, the bits BP2 BP1 BP0 as one number.
 use crate::State;
 ghost use mathlib.Core.Path.{_≡_};
 ghost use lib.ListN.{getD};
 ghost use Rattle.state.specs.Protection.{firstProtectedByLevel, firstProtected};
 
-// The F25L008A, by level BP2 BP1 BP0; its size where nothing is protected.
-const FIRST_PROTECTED: [u32; 8] = [
-    0x100000, // 000: nothing
-    0x0f0000, // 001: upper 1/16
-    0x0e0000, // 010: upper 1/8
-    0x0c0000, // 011: upper 1/4
-    0x080000, // 100: upper 1/2
-    0,
-    0,
-    0, // 101 to 111: everything
-];
+// The F25L008A's bytes.
+const SIZE: u32 = 0x100000;
 
+// A block's; the chip has sixteen.
+const BLOCK: u32 = 0x10000;
+
+// The F25L008A. Level 000 protects nothing: the answer is the size. 001 protects the upper block, and each further level double the one
+// below: 010 two blocks, 011 four, 100 eight, and 101 all sixteen, from address 0. 110 and 111 protect no more than everything.
+// A level over 7 is none of the chip's, and no sound state has it; the answer there is 0.
 fn first_by_level(level: u8) -> u32
     ensures { λ r. ⌜ r ≡ getD firstProtectedByLevel level 0 ⌝ }
 {
-    if level < 8 {
-        FIRST_PROTECTED[level as usize]
-    } else {
-        0
+    if level == 0 {
+        return SIZE;
     }
+    if level > 5 {
+        return 0;
+    }
+    SIZE - (BLOCK << (level - 1))
 }
 
 pub fn first_protected(s: State) -> u32

@@ -1,6 +1,7 @@
 //! Random and edge cases for any two who answer the eight calls, compared with each other.
 
 pub mod counts;
+pub mod levels;
 pub mod literal;
 pub mod plans;
 pub mod samples;
@@ -8,6 +9,7 @@ pub mod states;
 
 mod board;
 mod case;
+mod chip;
 mod compare;
 mod frames;
 mod generator;

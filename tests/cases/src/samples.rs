@@ -2,11 +2,12 @@
 
 use model::{Calls, State};
 
+use crate::chip::Chip;
 use crate::{scripts, size, F25L008A, F25L05PA};
 
 /// The names of the samples that fail.
-pub fn failing<C: Calls>() -> Vec<&'static str> {
-    samples::<C>().into_iter().filter(|(_, holds)| !holds()).map(|(name, _)| name).collect()
+pub fn failing<C: Calls>() -> Vec<String> {
+    samples::<C>().into_iter().filter(|(_, holds)| !holds()).map(|(name, _)| name.into()).collect()
 }
 
 type Sample = (&'static str, fn() -> bool);
@@ -132,39 +133,4 @@ fn play<C: Calls>() -> bool {
     output == outputs
         && (ran.number, ran.frames, ran.microseconds) == (0, 5, 1_500)
         && ran.state == C::new_chip(F25L05PA).state
-}
-
-/// A chip with an erased array.
-struct Chip<C> {
-    state: State,
-    array: Vec<u8>,
-    calls: std::marker::PhantomData<C>,
-}
-
-impl<C: Calls> Chip<C> {
-    fn new(chip: u8) -> Self {
-        Self {
-            state: C::new_chip(chip).state,
-            array: vec![0xFF; size(chip)],
-            calls: std::marker::PhantomData,
-        }
-    }
-
-    /// With this protection and WEL 1.
-    fn enabled(chip: u8, bp: u8) -> Self {
-        let mut new = Self::new(chip);
-        new.state = State { bp, wel: true, ..new.state };
-        new
-    }
-
-    fn send(&mut self, frame: &[u8]) -> Vec<u8> {
-        let mut output = vec![0; frame.len()];
-        let number = C::frame(&mut self.state, true, &mut self.array, frame, &mut output);
-        assert_eq!(number, 0, "a sample's frame was refused");
-        output
-    }
-
-    fn wait(&mut self, microseconds: u32) {
-        self.state = C::wait(self.state, microseconds).state;
-    }
 }

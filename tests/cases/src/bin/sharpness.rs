@@ -3,7 +3,7 @@
 
 use std::process::ExitCode;
 
-use cases::{explore, samples, Difference};
+use cases::{explore, levels, samples, Difference};
 use model::{Fault, Model};
 
 const SEED: u64 = 1;
@@ -13,9 +13,9 @@ fn main() -> ExitCode {
     let seed = std::env::args().nth(1).and_then(|text| text.parse().ok());
     let seed = seed.unwrap_or(SEED);
 
-    let failing = samples::failing::<Model>();
+    let failing = [samples::failing::<Model>(), levels::failing::<Model>()].concat();
     let mut sharp = failing.is_empty() && explore::<Model>(seed, CASES, |_, _, _| ()).is_ok();
-    println!("samples that the right model fails: {failing:?}");
+    println!("samples and levels that the right model fails: {failing:?}");
     println!("{:<28} {:>8}  call", "wrong copy", "case");
     for fault in FAULTS {
         let name = format!("{fault:?}");
