@@ -30,6 +30,8 @@ pub enum Fault {
     UnknownChipIs008a,
     /// Power-up refuses a state that isn't sound by number 2.
     UnsoundIsRefusal2,
+    /// A program or erase is taken with WEL 0.
+    WelNotAsked,
     /// BP2 protects the 05PA.
     Bp2Protects05pa,
     /// The 05PA loses its protection bits at power-off.

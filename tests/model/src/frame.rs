@@ -93,7 +93,7 @@ pub fn verdict<const FAULT: u8>(
                 Kind::WordProgram => word_address::<FAULT>(chip, state, frame),
                 _ => address(chip, frame),
             };
-            if !state.wel {
+            if !state.wel && !Fault::WelNotAsked.within(FAULT) {
                 return Err(Reason::WriteDisabled);
             }
             if target >= state.first_protected::<FAULT>(chip) as usize {

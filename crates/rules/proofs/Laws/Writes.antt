@@ -1,26 +1,24 @@
 -- The opcodes that program and erase: what they need, what becomes of the array, and how long they take.
 -- Assumes nothing.
 use mathlib.Core.Path.{_≡_, refl, sym, ap, ap₂, _∙_}
-use mathlib.Core.Bool.{Bool, true, false, _&&_, cond}
-use mathlib.Core.List.{List, [], _∷_}
+use mathlib.Core.Bool.{Bool, true, _&&_, cond}
+use mathlib.Core.List.{List}
 use mathlib.Core.Logic.{_⊎_, inl, inr, ⊎-elim}
-use Prim.Native.Nat.{ℕ, zero, suc, _+_, _-_, _*_, _/_, _%_, _≤_, _<_}
+use Prim.Native.Nat.{ℕ, zero, suc, _+_, _-_, _*_, _/_, _%_, _≤_}
 use native.Mathlib.Omega.{arith}
 use lib.Bits.{bitAnd}
 use lib.Dec.{leb, ltb, eqb}
 use lib.ListN.{length, getD, drop, length-drop}
 use borrow.Author.Tests.{lt-leb, le-leb, eq-eqb, ne-eqb, eqb-true}
-use Rattle.common.specs.Lists.{Each}
 use Rattle.common.proofs.Laws.Choice.{cases}
 use Rattle.common.proofs.Laws.Booleans.{and-l, and-r}
 use Rattle.common.proofs.Laws.Lists.{split}
-use Rattle.common.proofs.Laws.Pairs.{_▹_}
 use Rattle.chip.specs.declared.Chip.{Chip}
 use Rattle.chip.specs.Kinds.{sectorErase, blockErase, chipErase, byteProgram, pageProgram, aaiProgram}
 use Rattle.chip.proofs.Laws.Chip.{known-number}
 use Rattle.state.specs.State.{dataOf, withLeft, withAai}
 use Rattle.state.specs.Protection.{firstProtectedByLevel, firstProtected}
-use Rattle.state.proofs.Laws.Protection.{first-border, first-graded}
+use Rattle.state.proofs.Laws.Protection.{first-border, first-graded, level-some}
 use Rattle.command.specs.declared.Command.{Command}
 use Rattle.command.specs.declared.Command.the-variants.{Erase, ProgramByte, ProgramPage, ProgramWord}
 use Rattle.command.specs.Command.{when, long, address, writable, erase, look, aaiRows, commandOf}
@@ -54,17 +52,9 @@ all-or-less first h =
     (λ l. rw (le-leb 65536 first l, eq-eqb first 65536 (omega (arith, h, l))) refl) (split first 65536)
 
 -- with BP 000, and at no other level
-lower : (firsts : List ℕ) → Each (λ first. first < 1048576) firsts → (k : ℕ) → leb 1048576 (getD firsts k 0) ≡ false
-lower [] each k = refl
-lower (first ∷ firsts) each zero = lt-leb 1048576 first (each .0)
-lower (first ∷ firsts) each (suc k) = lower firsts (each .1) k
-
 level-open : (level : ℕ) → leb 1048576 (getD firstProtectedByLevel level 0) ≡ eqb level 0
 level-open zero = refl
-level-open (suc k) =
-    lower (drop 1 firstProtectedByLevel)
-    ((omega arith) ▹ (omega arith) ▹ (omega arith) ▹ (omega arith) ▹ (omega arith) ▹ (omega arith) ▹ (omega arith) ▹ tt) k
-    ∙ sym (ne-eqb (suc k) 0 (λ e. absurd (omega arith)))
+level-open (suc k) = lt-leb 1048576 _ (level-some (suc k) (omega arith)) ∙ sym (ne-eqb (suc k) 0 (λ e. absurd (omega arith)))
 
 whole-by : (number first : ℕ) (level : Bool) → (number ≡ 8 → leb 1048576 first ≡ level) → (number ≡ 5 → first ≤ 65536) → (number ≡ 8) ⊎ (number ≡ 5)
     → leb (0 + bytesOf number) first ≡ byChip number level (eqb first 65536)

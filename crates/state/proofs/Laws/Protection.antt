@@ -3,7 +3,6 @@
 -- Assumes nothing.
 use mathlib.Core.Path.{_≡_, refl, sym, _∙_}
 use mathlib.Core.Bool.{true, false, cond}
-use mathlib.Core.List.{List, [], _∷_}
 use mathlib.Core.Logic.{⊎-elim}
 use Prim.Native.Nat.{ℕ, zero, suc, _+_, _-_, _*_, _%_, _^_, _≤_, _<_}
 use native.Mathlib.Omega.{arith}
@@ -11,45 +10,67 @@ use native.Mathlib.Nat.{le-trans, mod-eq-of-lt}
 use native.Mathlib.Numerals.{add-one, unary-clauses}
 use lib.Dec.{eqb}
 use lib.ListN.{getD, List·getD-eq-default}
-use lib.Pow.{pow-mono}
-use Rattle.common.specs.Lists.{Each}
+use lib.Pow.{pow-mono, pow-pos}
 use Rattle.common.proofs.Laws.Choice.{cond-elim}
 use Rattle.common.proofs.Laws.Lists.{split, getD-tab}
-use Rattle.common.proofs.Laws.Pairs.{_▹_}
 use Rattle.state.specs.declared.State.{State}
 use Rattle.state.specs.State.{dataOf}
 use Rattle.state.specs.Protection.{firstProtectedByLevel, firstProtected}
 use Rattle.chip.proofs.Laws.Chip.{regular}
 
+-- ---- the table as a rule: 000 protects nothing, 001 the upper 65,536 bytes, each further level double the one below, none more than everything
+
+-- every level above 000, the table's seven computed once; the difference is 0 where a level would protect more than everything, as it is past the table
+level-rule : (k : ℕ) → getD firstProtectedByLevel (suc k) 0 ≡ 1048576 - 65536 * 2 ^ k
+level-rule k =
+    ⊎-elim (λ l. getD-tab 7 (λ n. 1048576 - 65536 * 2 ^ n) k 0 l)
+    (λ g. List·getD-eq-default firstProtectedByLevel 0 {n = suc k} (omega arith) ∙ omega (arith, pow-mono {i = 5} {j = k} (omega arith))) (split k 7)
+
+-- the formula
+pub level-first : (level : ℕ) → 0 < level → getD firstProtectedByLevel level 0 ≡ 1048576 - 65536 * 2 ^ (level - 1)
+level-first zero some = absurd (omega arith)
+level-first (suc k) some = simp unary-clauses (level-rule k)
+
+-- what is protected at 001 to 101 is no more than everything, so the difference does not wrap
+pub level-part : (level : ℕ) → level ≤ 5 → 65536 * 2 ^ (level - 1) ≤ 1048576
+level-part level top = omega (arith, pow-mono {i = level - 1} {j = 4} (omega arith))
+
+-- and fits in 32 bits, so a block shifted to the left loses none
+pub level-shift : (level : ℕ) → level ≤ 5 → (65536 * 2 ^ (level - 1)) % 2 ^ 32 ≡ 65536 * 2 ^ (level - 1)
+level-shift level top = mod-eq-of-lt (omega (arith, level-part level top))
+
+-- above 101 everything is protected
+pub level-all : (level : ℕ) → 5 < level → getD firstProtectedByLevel level 0 ≡ 0
+level-all zero h = absurd (omega arith)
+level-all (suc k) h = level-rule k ∙ omega (arith, pow-mono {i = 5} {j = k} (omega arith))
+
+-- above 000 something is
+pub level-some : (level : ℕ) → 0 < level → getD firstProtectedByLevel level 0 < 1048576
+level-some zero some = absurd (omega arith)
+level-some (suc k) some = omega (arith, level-rule k, pow-pos k)
+
+-- what a level protects is double what the one below does, from 001 up to 101
+pub level-doubles : (level : ℕ) → 0 < level → level < 5
+    → 1048576 - getD firstProtectedByLevel (level + 1) 0 ≡ 2 * (1048576 - getD firstProtectedByLevel level 0)
+level-doubles zero some top = absurd (omega arith)
+level-doubles (suc k) some top =
+    rw (add-one (suc k)) (omega (arith, level-rule k, level-rule (suc k), pow-mono {i = suc k} {j = 4} (omega arith)))
+
+-- ---- at most the size, and whole blocks
+
 pub record Border (size n : ℕ) : Type 0 where
   pub in-size : n ≤ size
   pub blocks : n % 65536 ≡ 0
 
-border-at : (size : ℕ) (ns : List ℕ) → Each (Border size) ns → (k : ℕ) → Border size (getD ns k 0)
-border-at size [] b k = record { in-size = omega arith; blocks = refl }
-border-at size (n ∷ ns) b zero = b .0
-border-at size (n ∷ ns) b (suc k) = border-at size ns (b .1) k
-
-border : (size n : ℕ) → n ≤ size → n % 65536 ≡ 0 → Border size n
-border size n h e = record { in-size = h; blocks = e }
-
-levels : Each (Border 1048576) firstProtectedByLevel
-levels =
-    border _ _ (omega arith) refl
-    ▹ border _ _ (omega arith) refl
-    ▹ border _ _ (omega arith) refl
-    ▹ border _ _ (omega arith) refl
-    ▹ border _ _ (omega arith) refl
-    ▹ border _ _ (omega arith) refl
-    ▹ border _ _ (omega arith) refl
-    ▹ border _ _ (omega arith) refl
-    ▹ tt
+level-border : (level : ℕ) → Border 1048576 (getD firstProtectedByLevel level 0)
+level-border zero = record { in-size = omega arith; blocks = refl }
+level-border (suc k) = rw (level-rule k) record { in-size = omega arith; blocks = omega arith }
 
 pub first-border : (s : State) → Border (dataOf s .size) (firstProtected s)
 unfolding firstProtected
 first-border s =
     cond-elim (Border (dataOf s .size)) (dataOf s .graded)
-    (λ g. rw (regular (s .chip) .graded-size g) (border-at 1048576 firstProtectedByLevel levels (s .bp)))
+    (λ g. rw (regular (s .chip) .graded-size g) (level-border (s .bp)))
     (λ _. cond-elim (Border (dataOf s .size)) (eqb (s .bp % 4) 0)
     (λ _. record { in-size = omega arith; blocks = regular (s .chip) .whole-blocks })
     (λ _. record { in-size = omega arith; blocks = refl }))
@@ -78,37 +99,3 @@ first-graded s g = rw g refl
 pub first-whole : (s : State) → dataOf s .graded ≡ false → firstProtected s ≡ cond (eqb (s .bp % 4) 0) (dataOf s .size) 0
 unfolding firstProtected
 first-whole s g = rw g refl
-
--- ---- the table as a rule: 000 protects nothing, 001 the upper 65,536 bytes, each further level double the one below, none more than everything
-
--- the levels above 000, computed once; the difference is 0 where a level would protect more than everything
-level-rule : (k : ℕ) → k < 7 → getD firstProtectedByLevel (suc k) 0 ≡ 1048576 - 65536 * 2 ^ k
-level-rule k h = getD-tab 7 (λ n. 1048576 - 65536 * 2 ^ n) k 0 h
-
--- the formula, at 001 to 101
-pub level-first : (level : ℕ) → 0 < level → level ≤ 5 → getD firstProtectedByLevel level 0 ≡ 1048576 - 65536 * 2 ^ (level - 1)
-level-first zero some top = absurd (omega arith)
-level-first (suc k) some top = simp unary-clauses (level-rule k (omega arith))
-
--- what is protected there is no more than everything, so the difference does not wrap
-pub level-part : (level : ℕ) → level ≤ 5 → 65536 * 2 ^ (level - 1) ≤ 1048576
-level-part level top = omega (arith, pow-mono {i = level - 1} {j = 4} (omega arith))
-
--- and fits in 32 bits, so a block shifted to the left loses none
-pub level-shift : (level : ℕ) → level ≤ 5 → (65536 * 2 ^ (level - 1)) % 2 ^ 32 ≡ 65536 * 2 ^ (level - 1)
-level-shift level top = mod-eq-of-lt (omega (arith, level-part level top))
-
--- 110 and 111 protect everything; over 7 the table has ended
-pub level-all : (level : ℕ) → 5 < level → getD firstProtectedByLevel level 0 ≡ 0
-level-all zero h = absurd (omega arith)
-level-all (suc k) h =
-    ⊎-elim (λ l. level-rule k l ∙ omega (arith, pow-mono {i = 5} {j = k} (omega arith)))
-    (λ g. List·getD-eq-default firstProtectedByLevel 0 {n = suc k} (omega arith)) (split k 7)
-
--- what a level protects is double what the one below does, from 001 up to 101
-pub level-doubles : (level : ℕ) → 0 < level → level < 5
-    → 1048576 - getD firstProtectedByLevel (level + 1) 0 ≡ 2 * (1048576 - getD firstProtectedByLevel level 0)
-level-doubles zero some top = absurd (omega arith)
-level-doubles (suc k) some top =
-    rw (add-one (suc k))
-    (omega (arith, level-rule k (omega arith), level-rule (suc k) (omega arith), pow-mono {i = suc k} {j = 4} (omega arith)))

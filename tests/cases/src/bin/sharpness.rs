@@ -62,6 +62,7 @@ faults! {
     StatusWriteLeavesWel
     UnknownChipIs008a
     UnsoundIsRefusal2
+    WelNotAsked
     Bp2Protects05pa
     ProtectionForgotten
     AaiPassesBorder

@@ -28,7 +28,7 @@ sub-result-2 c = omega (arith, level-part (c .before .before .args .level) (omeg
 
 returns-3 : tie.Need-returns-3
 returns-3 c =
-    ap (λ (part : ℕ). 1048576 - part) (level-shift _ (c .if2 .left)) ∙ sym (level-first _ (omega (arith, c .before .if1 .left)) (c .if2 .left))
+    ap (λ (part : ℕ). 1048576 - part) (level-shift _ (c .if2 .left)) ∙ sym (level-first _ (omega (arith, c .before .if1 .left)))
 
 pub first-by-level-spec : {M : Type 1} → statement M
 first-by-level-spec = tie.close (tie.spec returns returns-2 sub-result cast-result shl-result sub-result-2 returns-3)
