@@ -43,8 +43,12 @@ typedef struct { uint8_t chip, bp; bool tb, bpl, wel, aai, armed, power_down; ui
 
 typedef struct { uint32_t number; zeradok_state state; } zeradok_answer;
 
-/* A script run: so many frames run and microseconds waited. */
-typedef struct { uint32_t number; zeradok_state state; uint32_t frames; uint64_t microseconds; } zeradok_ran;
+/* A script run: so many frames run and microseconds waited. offset: where the first bad record begins, with 12, 13 and 14; with every other number,
+ * 0 among them, it is 0. */
+typedef struct { uint32_t number; zeradok_state state; uint32_t frames; uint64_t microseconds; size_t offset; } zeradok_ran;
+
+/* A script looked through: its frames, its microseconds, and the length of output that running it takes. offset: as in zeradok_ran. */
+typedef struct { uint32_t number, frames; uint64_t microseconds; size_t offset, output; } zeradok_surveyed;
 
 /* A script planned: its length in bytes, its frames and its microseconds. */
 typedef struct { uint32_t number; zeradok_state state; uint32_t length, frames, microseconds; } zeradok_planned;
@@ -82,13 +86,23 @@ uint32_t zeradok_cut_frame(zeradok_state *chip, bool wp_high, uint8_t *array, si
 zeradok_planned zeradok_plan(zeradok_state chip, bool wp_high, const uint8_t *array, size_t array_length, size_t start,
                              const uint8_t *wanted, size_t wanted_length, uint8_t *buffer, size_t buffer_length);
 
+/* Looks a script through without running it: what is wrong with one typed by hand, and how long zeradok_run's output has to be. Changes nothing.
+ * Refusals: 11 script over 32,768 bytes; else what is wrong with the first bad record, in this order:
+ * 14 one byte is left, whatever it is: the mark has two;
+ * 12 the mark is neither 5A 46, a frame, nor 5A 57, a wait;
+ * 14 fewer than two bytes behind 5A 46, where the frame's length stands, or than four behind 5A 57;
+ * 13 the frame's length is 0 or over 4,101, however many bytes are left;
+ * 14 fewer bytes are left than the frame has.
+ * A script that is accepted here is refused by zeradok_run with 1, 2 or 4 only. */
+zeradok_surveyed zeradok_survey(const uint8_t *script, size_t script_length);
+
 /* Runs the records of a script, the frames' outputs one after another in output. Changes array and output; the state comes back in the answer.
- * Refusals, in this order: 1 state, 2 array length, 11 script over 32,768 bytes, 12 a bad record, 4 output length isn't the frames' sum. */
+ * Refusals, in this order: 1 state, 2 array length, 11 to 14 as zeradok_survey has them, 4 output length isn't the frames' sum. */
 zeradok_ran zeradok_run(zeradok_state chip, bool wp_high, uint8_t *array, size_t array_length, const uint8_t *script, size_t script_length,
                         uint8_t *output, size_t output_length);
 
 /* Reads the record at an offset of a script; next is the offset behind it, and the given one for a refusal and at the end. Changes nothing.
- * Refusals: 11 script over 32,768 bytes, 12 the record is malformed or cut short, or the offset is past the end. */
+ * Refusals: 11 script over 32,768 bytes, 12 to 14 of this record as zeradok_survey has them, 14 also where the offset is past the end. */
 zeradok_record zeradok_read(const uint8_t *script, size_t script_length, size_t offset);
 
 #ifdef __cplusplus

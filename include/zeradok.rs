@@ -51,6 +51,17 @@ pub struct Ran {
     pub state: State,
     pub frames: u32,
     pub microseconds: u64,
+    pub offset: usize,
+}
+
+#[repr(C)]
+#[derive(Clone, Copy, Debug, PartialEq, Eq)]
+pub struct Surveyed {
+    pub number: u32,
+    pub frames: u32,
+    pub microseconds: u64,
+    pub offset: usize,
+    pub output: usize,
 }
 
 #[repr(C)]
@@ -112,6 +123,7 @@ unsafe extern "C" {
         buffer: *mut u8,
         buffer_length: usize,
     ) -> Planned;
+    fn zeradok_survey(script: *const u8, script_length: usize) -> Surveyed;
     fn zeradok_run(
         chip: State,
         wp_high: bool,
@@ -206,6 +218,10 @@ pub fn plan(
             buffer.len(),
         )
     }
+}
+
+pub fn survey(script: &[u8]) -> Surveyed {
+    unsafe { zeradok_survey(script.as_ptr(), script.len()) }
 }
 
 pub fn run(chip: State, wp_high: bool, array: &mut [u8], script: &[u8], output: &mut [u8]) -> Ran {

@@ -1,5 +1,6 @@
 #!/usr/bin/env bash
-# Program `play` at its edges: 01's sample, empty input, a script one byte too long, a bad record, and a frame of 4,101 bytes.
+# Program `play` at its edges: 01's sample, empty input, a script one byte too long, bad records at offsets of one to five digits,
+# and a frame of 4,101 bytes.
 # The last line counts them, and the exit is non-zero where one fails.
 set -euo pipefail
 cd "$(dirname "$0")/.."
@@ -20,6 +21,28 @@ try() {
     fi
 }
 
+# name, what must be printed, and the input's bytes as printf has them
+says() {
+    printf "$3" >"$work/in"
+    echo "$2" >"$work/want"
+    try "$1"
+}
+
+# so many bytes of good records, at least 6: a frame and waits
+good() {
+    local frame=$((6 + $1 % 6)) laid
+    printf "\\x5a\\x46\\x00\\x0$((frame - 4))\\x05"
+    head -c $((frame - 5)) /dev/zero
+    for ((laid = frame; laid < $1; laid += 6)); do printf '\x5a\x57\x00\x00\x00\x07'; done
+}
+
+# an offset: good records up to it, then the bytes, as printf has them, of a record with this number
+bad_at() {
+    { good "$1" && printf "$3"; } >"$work/in"
+    echo "R $2 $1" >"$work/want"
+    try "R $2 $1 for${3//\\x/ }"
+}
+
 cp crates/play/stdin "$work/in"
 cp crates/play/stdout "$work/want"
 try "the sample of 01"
@@ -30,15 +53,30 @@ try "empty input prints the status alone"
 
 head -c 32769 /dev/zero >"$work/in"
 echo "R 11" >"$work/want"
-try "32,769 bytes are one too many"
+try "32,769 bytes are one too many, and no record's offset is told"
 
 head -c 32768 /dev/zero >"$work/in"
-echo "R 12" >"$work/want"
+echo "R 12 0" >"$work/want"
 try "32,768 bytes that are no record"
 
-printf '\x5a\x46\x00\x01\x06\x5a\x46\x00\x02\x05' >"$work/in"
-echo "R 12" >"$work/want"
-try "a last record cut short: nothing is run"
+says "a last record cut short: nothing is run" "R 14 5" '\x5a\x46\x00\x01\x06\x5a\x46\x00\x02\x05'
+says "one byte" "R 14 0" '\x00'
+says "half a mark" "R 14 0" '\x5a'
+says "a length of 0" "R 13 0" '\x5a\x46\x00\x00'
+says "a length of 4,102 and nothing behind it" "R 13 0" '\x5a\x46\x10\x06'
+says "a length of 4,101 and nothing behind it" "R 14 0" '\x5a\x46\x10\x05'
+says "a wait of three bytes" "R 14 0" '\x5a\x57\x00\x00\x07'
+says "two bad records: the first is told" "R 13 0" '\x5a\x46\x00\x00\x00\x00'
+
+# in decimal: 16 is 10 in hex, 42 is 2A
+bad_at 10 12 '\x5a\x58\x00\x00'
+bad_at 16 13 '\x5a\x46\x00\x00'
+bad_at 42 13 '\x5a\x46\xff\xff'
+bad_at 100 14 '\x5a\x46\x00'
+bad_at 1000 12 '\x46\x5a'
+bad_at 10000 13 '\x5a\x46\x10\x06'
+bad_at 32767 14 '\x5a'
+bad_at 32767 14 '\x00'
 
 # 03 from address 0: four silent bytes, then the erased array
 {

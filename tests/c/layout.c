@@ -23,11 +23,19 @@ SIZE(zeradok_answer, 20);
 FIELD(zeradok_answer, number, 0);
 FIELD(zeradok_answer, state, 4);
 
-SIZE(zeradok_ran, 32);
+SIZE(zeradok_ran, 40);
 FIELD(zeradok_ran, number, 0);
 FIELD(zeradok_ran, state, 4);
 FIELD(zeradok_ran, frames, 20);
 FIELD(zeradok_ran, microseconds, 24);
+FIELD(zeradok_ran, offset, 32);
+
+SIZE(zeradok_surveyed, 32);
+FIELD(zeradok_surveyed, number, 0);
+FIELD(zeradok_surveyed, frames, 4);
+FIELD(zeradok_surveyed, microseconds, 8);
+FIELD(zeradok_surveyed, offset, 16);
+FIELD(zeradok_surveyed, output, 24);
 
 SIZE(zeradok_planned, 32);
 FIELD(zeradok_planned, number, 0);

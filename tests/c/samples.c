@@ -1,4 +1,4 @@
-/* 01's sample sessions, a plan of each chip and the refusals 1 to 12, by a C program that knows include/zeradok.h and nothing else.
+/* 01's sample sessions, a plan of each chip and the refusals 1 to 14, by a C program that knows include/zeradok.h and nothing else.
  * Every byte of each output and of the array is compared. */
 #include "zeradok.h"
 
@@ -237,12 +237,12 @@ static bool plan_refused(uint32_t number, size_t start, const uint8_t *wanted, s
 }
 
 /* the script is refused, and neither the array nor the output is changed */
-static bool run_refused(uint32_t number, const uint8_t *script, size_t length, size_t output_length)
+static bool run_refused(uint32_t number, size_t offset, const uint8_t *script, size_t length, size_t output_length)
 {
     memset(output, 0xA5, sizeof output);
     memset(shown, 0xA5, sizeof shown);
     zeradok_ran r = zeradok_run(chip, wp_high, array, size, script, length, output, output_length);
-    return r.number == number && same_state(r.state, chip) && r.frames == 0 && r.microseconds == 0
+    return r.number == number && same_state(r.state, chip) && r.frames == 0 && r.microseconds == 0 && r.offset == offset
         && memcmp(output, shown, sizeof output) == 0 && memcmp(array, expected, size) == 0;
 }
 
@@ -251,7 +251,7 @@ static bool runs_script(const uint8_t *script, size_t length, const uint8_t *sho
     memset(output, 0xA5, sizeof output);
     zeradok_ran r = zeradok_run(chip, wp_high, array, size, script, length, output, count);
     chip = r.state;
-    return r.number == 0 && r.frames == frames && r.microseconds == microseconds && memcmp(output, shows, count) == 0
+    return r.number == 0 && r.frames == frames && r.microseconds == microseconds && r.offset == 0 && memcmp(output, shows, count) == 0
         && memcmp(array, expected, size) == 0;
 }
 
@@ -293,11 +293,56 @@ static bool listing_whole(void)
         && runs_script(NULL, 0, NULL, 0, 0, 0);
 }
 
+static bool surveys(const uint8_t *script, size_t length, zeradok_surveyed answer)
+{
+    zeradok_surveyed s = zeradok_survey(script, length);
+    return s.number == answer.number && s.frames == answer.frames && s.microseconds == answer.microseconds && s.offset == answer.offset
+        && s.output == answer.output;
+}
+
+static bool surveyed(void)
+{
+    return surveys(listing, sizeof listing, (zeradok_surveyed){0, 5, 1500, 0, sizeof listed}) && surveys(plan, 26, (zeradok_surveyed){0, 3, 7, 0, 8})
+        && surveys(NULL, 0, (zeradok_surveyed){0});
+}
+
+/* a script typed by hand: what a survey says of it, and a run with the output that the survey asks for */
+static bool typed_by_hand(const char *hex, uint32_t number, size_t offset)
+{
+    static uint8_t script[64];
+    size_t length = bytes_of(hex, script);
+    zeradok_surveyed s = zeradok_survey(script, length);
+    zeradok_ran r = zeradok_run(chip, wp_high, array, size, script, length, output, s.output);
+    chip = r.state;
+    return s.number == number && s.offset == offset && r.number == number && r.offset == offset && r.frames == s.frames
+        && r.microseconds == s.microseconds && memcmp(array, expected, size) == 0;
+}
+
+static bool bad_records(void)
+{
+    return erased(F25L05PA) && typed_by_hand("5A 46 00 01 06 5A 46 00 01 04", 0, 0)
+        && typed_by_hand("5A", 14, 0) && typed_by_hand("00", 14, 0)                               /* one byte is left */
+        && typed_by_hand("5A 58 00 00", 12, 0) && typed_by_hand("5A 46 00 01 06 46 5A", 12, 5)    /* an unknown mark */
+        && typed_by_hand("5A 46 10", 14, 0) && typed_by_hand("5A 46 00 01 06 5A 57 00 00", 14, 5) /* no whole length, no whole wait */
+        && typed_by_hand("5A 46 00 00", 13, 0) && typed_by_hand("5A 57 00 00 00 07 5A 46 10 06", 13, 6)
+        && typed_by_hand("5A 46 10 05 06", 14, 0) && typed_by_hand("5A 46 00 01 06 5A 46 00 02 05", 14, 5) /* the frame goes on */
+        && typed_by_hand("5A 46 00 00 00 00", 13, 0) && typed_by_hand("00 00 5A 46 00 00", 12, 0) /* the first bad one counts */
+        && status("00");
+}
+
 static bool script_refusals(void)
 {
     static uint8_t long_script[LONGEST_SCRIPT + 1];
-    return erased(F25L05PA) && run_refused(11, long_script, LONGEST_SCRIPT + 1, 0) && run_refused(12, long_script, LONGEST_SCRIPT, 0)
-        && run_refused(12, listing, sizeof listing - 1, sizeof listed) && run_refused(4, listing, sizeof listing, sizeof listed + 1);
+    bool good = erased(F25L05PA) && run_refused(11, 0, long_script, LONGEST_SCRIPT + 1, 0) && run_refused(12, 0, long_script, LONGEST_SCRIPT, 0)
+        && surveys(long_script, LONGEST_SCRIPT + 1, (zeradok_surveyed){.number = 11})
+        && surveys(long_script, LONGEST_SCRIPT, (zeradok_surveyed){.number = 12})
+        && run_refused(14, 34, listing, sizeof listing - 1, sizeof listed) && run_refused(14, 34, listing, sizeof listing - 1, 0)
+        && run_refused(4, 0, listing, sizeof listing, sizeof listed + 1);
+    size--;
+    good = good && run_refused(2, 0, listing, sizeof listing - 1, sizeof listed);
+    size++;
+    chip.bp = 8; /* not a state of the chip */
+    return good && run_refused(1, 0, listing, sizeof listing - 1, sizeof listed);
 }
 
 static bool reads(const uint8_t *script, size_t length, size_t offset, zeradok_record answer)
@@ -313,10 +358,12 @@ static bool records(void)
     return reads(plan, 26, 0, (zeradok_record){0, 1, 4, 1, 0, 5}) && reads(plan, 26, 5, (zeradok_record){0, 1, 9, 6, 0, 15})
         && reads(plan, 26, 15, (zeradok_record){0, 2, 0, 0, 7, 21}) && reads(plan, 26, 21, (zeradok_record){0, 1, 25, 1, 0, 26})
         && reads(plan, 26, 26, (zeradok_record){0, 3, 0, 0, 0, 26}) && reads(NULL, 0, 0, (zeradok_record){0, 3, 0, 0, 0, 0})
-        && reads(plan, 25, 21, (zeradok_record){12, 0, 0, 0, 0, 21}) && reads(plan, 26, 27, (zeradok_record){12, 0, 0, 0, 0, 27})
-        && reads(plan, 26, 1, (zeradok_record){12, 0, 0, 0, 0, 1})
+        && reads(plan, 25, 21, (zeradok_record){14, 0, 0, 0, 0, 21}) && reads(plan, 26, 27, (zeradok_record){14, 0, 0, 0, 0, 27})
+        && reads(plan, 26, 1, (zeradok_record){12, 0, 0, 0, 0, 1}) && reads(plan, 26, 25, (zeradok_record){14, 0, 0, 0, 0, 25})
+        && reads((const uint8_t[]){0x5A, 0x46, 0x10, 0x06}, 4, 0, (zeradok_record){13, 0, 0, 0, 0, 0})
         && reads(long_script, LONGEST_SCRIPT, 0, (zeradok_record){12, 0, 0, 0, 0, 0})
-        && reads(long_script, LONGEST_SCRIPT + 1, 0, (zeradok_record){11, 0, 0, 0, 0, 0});
+        && reads(long_script, LONGEST_SCRIPT + 1, 0, (zeradok_record){11, 0, 0, 0, 0, 0})
+        && reads(long_script, LONGEST_SCRIPT + 1, LONGEST_SCRIPT + 2, (zeradok_record){11, 0, 0, 0, 0, LONGEST_SCRIPT + 2});
 }
 
 /* the listing again, its records read and run one by one */
@@ -415,7 +462,9 @@ static const struct {
     {"refusals 6 to 10 of a plan, and empty plans", plan_refusals},
     {"the listing's script, whole", listing_whole},
     {"the listing's script, record by record", listing_by_records},
-    {"refusals 4, 11 and 12 of a script", script_refusals},
+    {"scripts looked through", surveyed},
+    {"scripts typed by hand, and what is wrong with them", bad_records},
+    {"refusals 1, 2, 4, 11, 12 and 14 of a script", script_refusals},
     {"records of a plan, one by one", records},
     {"power-up of both chips", power},
     {"a cut page", cut},

@@ -50,15 +50,17 @@ bufferTooShort = 10
 abbrev pub scriptTooLong : ℕ
 scriptTooLong = 11
 
--- "some record malformed or cut short": its mark is unknown, its frame's length is wrong, or it has too few bytes
+-- "some record malformed or cut short", by what is wrong with it (02, A1): "12 unknown mark,
 abbrev pub unknownMark : ℕ
 unknownMark = 12
 
+-- 13 frame length 0 or over 4,101,
 abbrev pub wrongLength : ℕ
-wrongLength = 12
+wrongLength = 13
 
+-- 14 record cut short"
 abbrev pub cutShort : ℕ
-cutShort = 12
+cutShort = 14
 
 -- ---- what a call makes of them
 

@@ -1,4 +1,4 @@
-// The refusal numbers, in the order of 01's table.
+// The refusal numbers: 1 to 11 in the order of 01's table, then what can be wrong with a record (02, A1).
 
 // the state is not sound, or the chip number unknown
 pub const STATE_NOT_SOUND: u32 = 1;
@@ -33,9 +33,11 @@ pub const BUFFER_TOO_SHORT: u32 = 10;
 // the script is too long
 pub const SCRIPT_TOO_LONG: u32 = 11;
 
-// some record is malformed or cut short: its mark is unknown, its frame's length is wrong, or it has too few bytes
+// a record's mark is none of the two
 pub const UNKNOWN_MARK: u32 = 12;
 
-pub const WRONG_LENGTH: u32 = 12;
+// a record's frame is empty or too long
+pub const WRONG_LENGTH: u32 = 13;
 
-pub const CUT_SHORT: u32 = 12;
+// a record has too few bytes
+pub const CUT_SHORT: u32 = 14;

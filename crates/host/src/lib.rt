@@ -4,6 +4,7 @@ mod reader;
 use plan::Planned;
 use reader::Record;
 use run::Ran;
+use script::survey::Surveyed;
 use state::Answer;
 use state::State;
 ghost use mathlib.Core.Path.{_≡_};
@@ -12,6 +13,7 @@ ghost use Rattle.state.specs.Time.{passTime};
 ghost use Rattle.frame.specs.Device.{device};
 ghost use Rattle.frame.specs.Call.{FrameRun, CutRun};
 ghost use Rattle.plan.specs.Update.{PlanUpdated};
+ghost use Rattle.script.specs.Survey.{surveyOf};
 ghost use Rattle.run.specs.Script.{ScriptRun};
 ghost use Rattle.host.specs.Read.{ReadAnswered};
 
@@ -87,6 +89,14 @@ pub extern "C" fn zeradok_plan(
     ensures { λ r. ⌜ PlanUpdated chip «wp_high» (now (array .entry)) start (now (wanted .entry)) (now (buffer .entry)) (now (buffer .exit)) r ⌝ }
 {
     plan::plan_update(chip, wp_high, array, start, wanted, buffer)
+}
+
+// Look a script through without running it.
+#[no_mangle]
+pub extern "C" fn zeradok_survey(script: &[u8]) -> Surveyed
+    ensures { λ r. ⌜ r ≡ surveyOf (now (script .entry)) ⌝ }
+{
+    script::survey::survey_of(script)
 }
 
 // Run a script.

@@ -12,7 +12,8 @@ use Rattle.common.specs.Refusals.{scriptTooLong}
 use Rattle.script.specs.Decode.{faultNumber, Decoded, records, badAt, decode}
 use Rattle.frame.specs.Device.{Device, device}
 use Rattle.run.specs.Run.{step, outputOf, run}
-use Rattle.text.specs.Text.{hex, decimal, line}
+use Rattle.run.specs.Script.{carriesOffset}
+use Rattle.text.specs.Text.{hex, line, decimalsLine}
 
 -- how long a listing can be: a frame of n bytes takes 4 + n bytes of the script and 2 n + 3 characters; the last line has 5
 abbrev pub longestListing : ℕ
@@ -38,7 +39,15 @@ statusLine d = line 0x53 (hex (statusOf (d .state) ∷ []))
 
 -- "R, a space, the number"
 abbrev pub refusalLine : ℕ → List ℕ
-refusalLine number = line 0x52 (decimal number)
+refusalLine number = decimalsLine 0x52 (number ∷ [])
+
+-- "with the offset of the first bad record's mark, which `play` prints as a third field, in decimal" (02, A1)
+abbrev pub badRecordLine : ℕ → ℕ → List ℕ
+badRecordLine number offset = decimalsLine 0x52 (number ∷ offset ∷ [])
+
+-- which of the two lines it is
+abbrev pub whyRefused : ℕ → ℕ → List ℕ
+whyRefused number offset = cond (carriesOffset number) (badRecordLine number offset) (refusalLine number)
 
 -- "One line a frame", in its place in the run; a wait has none
 unfoldable pub frameLines : List Record → Device → List ℕ
@@ -49,9 +58,9 @@ frameLines (wait n ∷ rs) d = frameLines rs (step high (wait n) d)
 -- the status comes "last"; "a refusal is one line"
 abbrev pub decodedLines : Decoded → List ℕ
 decodedLines (records rs) = frameLines rs new05pa ++ statusLine (run high rs new05pa)
-decodedLines (badAt fault offset) = refusalLine (faultNumber fault)
+decodedLines (badAt fault offset) = badRecordLine (faultNumber fault) offset
 
--- 11 is checked before 12
+-- 11 is checked before any record
 unfoldable pub listing : List ℕ → List ℕ
 listing script = cond (ltb longestScript (length script)) (refusalLine scriptTooLong) (decodedLines (decode script))
 

@@ -1,5 +1,6 @@
-// What program `play` prints of a script (01): the outputs of its frames and the status, or why it is refused.
+// What program `play` prints of a script (01): the outputs of its frames and the status, or why it is refused and where.
 mod frames;
+mod refusal;
 
 use common::limits::LONGEST_SCRIPT;
 ghost use mathlib.Core.Path.{_≡_};
@@ -40,7 +41,7 @@ pub fn listing(script: &[u8], text: &mut [u8; LONGEST_LISTING]) -> usize
         &mut output[..survey.output],
     );
     if ran.number != 0 {
-        return text::put_decimal_line(b'R', ran.number, text, 0);
+        return refusal::put_refusal(ran.number, ran.offset, text);
     }
     let last_line = frames::put_frame_lines(script, &output[..survey.output], text);
     text::put_hex_line(

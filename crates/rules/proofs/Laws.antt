@@ -27,7 +27,8 @@ mod PlanDetermined
 pub mod Plans
 mod Numbered
 mod Conditions
-mod ScriptConditions
+pub mod BadRecords
+pub mod Survey
 pub mod Refusals
 pub mod Play
 pub mod Driver

@@ -1,9 +1,9 @@
--- The conditions of the refusals (01, "Refusal numbers"), in words: each number's second column.
+-- The conditions of the refusals (01, "Refusal numbers"), in words: each number's second column. What can be wrong with a record: specs/BadRecords.antt.
 use mathlib.Core.Path.{_≡_}
 use mathlib.Core.Bool.{Bool, true, false}
 use mathlib.Core.List.{List}
 use mathlib.Core.Logic.{_⊎_}
-use Prim.Native.Nat.{ℕ, _+_, _*_, _≤_, _<_}
+use Prim.Native.Nat.{ℕ, _+_, _≤_, _<_}
 use lib.ListN.{length, getD}
 use Rattle.common.specs.Bits.{bitAt}
 use Rattle.state.specs.declared.State.{State}
@@ -75,26 +75,3 @@ BufferTooShort s array start wanted buffer = length buffer < length (encode (pla
 -- 11: "script over 32,768"
 abbrev pub ScriptTooLong : List ℕ → Type 0
 ScriptTooLong script = 32768 < length script
-
--- 12: "some record malformed or cut short": the bytes are those of no records
-abbrev pub BadScript : List ℕ → Type 0
-BadScript script = (records : List Record) → AllFit records → script ≡ encode records → ⊥
-
--- "5A 46, a length of two bytes, high first, 1 to 4,101, then the frame;
-pub record FrameStands (script : List ℕ) (offset : ℕ) : Type 0 where
-  pub mark-5a : getD script offset 0 ≡ 0x5a
-  pub mark-46 : getD script (offset + 1) 0 ≡ 0x46
-  pub at-least-1 : 1 ≤ getD script (offset + 2) 0 * 256 + getD script (offset + 3) 0
-  pub at-most-4101 : getD script (offset + 2) 0 * 256 + getD script (offset + 3) 0 ≤ 4101
-  pub whole : offset + 4 + (getD script (offset + 2) 0 * 256 + getD script (offset + 3) 0) ≤ length script
-
--- or 5A 57 and four bytes of microseconds"
-pub record WaitStands (script : List ℕ) (offset : ℕ) : Type 0 where
-  pub mark-5a : getD script offset 0 ≡ 0x5a
-  pub mark-57 : getD script (offset + 1) 0 ≡ 0x57
-  pub whole : offset + 6 ≤ length script
-
--- "(reader: the record at the offset, or an offset past the end)"
-abbrev pub BadRecord : List ℕ → ℕ → Type 0
-BadRecord script offset =
-    (length script < offset) ⊎ ((offset < length script) × (FrameStands script offset → ⊥) × (WaitStands script offset → ⊥))

@@ -16,6 +16,8 @@ use Rattle.state.specs.Time.{passTime}
 use Rattle.frame.specs.Device.{Device}
 use Rattle.frame.specs.Call.{frameNumber, cutNumber, FrameRun, CutRun}
 use Rattle.script.specs.declared.reader.Found.the-variants.{Frame, End}
+use Rattle.script.specs.declared.survey.Surveyed.{Surveyed}
+use Rattle.script.specs.Survey.{surveyOf}
 use Rattle.script.specs.Answers.{numberOf}
 use Rattle.script.specs.Reader.{recordAt, framePart}
 use Rattle.run.specs.declared.Ran.{Ran}
@@ -46,8 +48,8 @@ use Rattle.rules.specs.Refusals.{
   CutRefusals,
   PlanRefusals,
   ScriptRefusals,
-  ReaderRefusals,
 }
+use Rattle.rules.specs.BadRecords.{ReaderRefusals, SurveyRules}
 use Rattle.rules.specs.Play.{PlayRules}
 use Rattle.rules.specs.Driver.{SentTo, CutAt}
 
@@ -70,12 +72,14 @@ pub record EveryCallAnswers : Type 0 where
       → One (λ (a : ℕ × (Device × List ℕ)). FrameRun wp f d output (a .0) (a .1 .0) (a .1 .1))
   pub run-cut-frame : (wp : Bool) (f mask : List ℕ) (d : Device) (output : List ℕ)
       → One (λ (a : ℕ × (Device × List ℕ)). CutRun wp f mask d output (a .0) (a .1 .0) (a .1 .1))
-  -- number, state and counts; chip and output
+  -- number, state, counts and offset; chip and output
   pub run-script : (wp : Bool) (script : List ℕ) (d : Device) (output : List ℕ)
       → One (λ (a : Ran × (Device × List ℕ)). ScriptRun wp script d output (a .0) (a .1 .0) (a .1 .1))
   -- number, state, length and counts; buffer
   pub plan-update : (s : State) (wp : Bool) (array : List ℕ) (start : ℕ) (wanted buffer : List ℕ)
       → One (λ (a : Planned × List ℕ). PlanUpdated s wp array start wanted buffer (a .1) (a .0))
+  -- a script's number, counts and offset
+  pub survey : (script : List ℕ) → One (λ (r : Surveyed). r ≡ surveyOf script)
   -- the record at an offset, and the frame as that part of the script
   pub read : (script : List ℕ) (offset : ℕ) → One (λ (r : Record). ReadAnswered script offset r)
   pub read-part : (script : List ℕ) (offset : ℕ) → One (λ (part : List ℕ). part ≡ framePart script offset)
@@ -93,6 +97,8 @@ pub record RefusedAsIn01 : Type 0 where
       (runs : ScriptRun wp script d output ran after shown) → ScriptRefusals wp script d output ran after shown bytes runs
   pub plan-update : (s : State) (wp : Bool) (array : List ℕ) (start : ℕ) (wanted buffer after : List ℕ) (planned : Planned) (bytes : Bytes wanted)
       (plans : PlanUpdated s wp array start wanted buffer after planned) → PlanRefusals s wp array start wanted buffer after planned bytes plans
+  -- 12, 13, 14 and their offset (02, A1)
+  pub survey : (script : List ℕ) (bytes : Bytes script) → SurveyRules script
   pub read : (script : List ℕ) (offset : ℕ) → ReaderRefusals script offset
 
 -- ---- demand 2

@@ -16,6 +16,8 @@ pub mod PlanWords
 pub mod PlanPages
 pub mod Plans
 pub mod Conditions
+pub mod Numbered
+pub mod BadRecords
 pub mod Refusals
 pub mod Play
 pub mod Driver

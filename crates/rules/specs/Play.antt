@@ -1,21 +1,22 @@
--- "Program `play` reads a script from standard input" (01, "Sample sessions"): what it prints, each character by its ASCII code.
+-- "Program `play` reads a script from standard input" (01, "Sample sessions"; 02, A1): what it prints, each character by its ASCII code.
 use mathlib.Core.Path.{_≡_}
 use mathlib.Core.Bool.{true}
 use mathlib.Core.List.{List, [], _∷_, _++_}
 use mathlib.Core.Logic.{_⊎_}
-use Prim.Native.Nat.{ℕ, _/_, _%_, _≤_}
-use lib.ListN.{length, replicate}
-use Rattle.common.specs.Lists.{tab}
+use Prim.Native.Nat.{ℕ, _/_, _%_, _≤_, _<_}
+use lib.ListN.{length, getD, replicate}
+use Rattle.common.specs.Lists.{tab, Each}
 use Rattle.state.specs.Status.{statusOf}
 use Rattle.state.specs.Time.{passTime}
 use Rattle.script.specs.Record.{Record, frame, wait, encode}
 use Rattle.frame.specs.Device.{Device, device, withState}
 use Rattle.frame.specs.Call.{frameNumber, frameDevice, frameOutput}
-use Rattle.run.specs.Script.{scriptNumber}
-use Rattle.text.specs.Text.{digit}
+use Rattle.run.specs.Script.{scriptNumber, scriptOffset}
+use Rattle.text.specs.Text.{digit, decimal, Numeral, valueOf}
 use Rattle.listing.specs.Listing.{listing}
 use Rattle.rules.specs.Power.{new05PA}
-use Rattle.rules.specs.Conditions.{ScriptTooLong, BadScript}
+use Rattle.rules.specs.Conditions.{ScriptTooLong}
+use Rattle.rules.specs.BadRecords.{FirstBad}
 
 -- "a new, erased 05PA"
 unfoldable pub erased05PA : Device
@@ -25,6 +26,16 @@ erased05PA = device new05PA (replicate 65536 0xff)
 abbrev pub inHex : List ℕ → List ℕ
 inHex [] = []
 inHex (byte ∷ bytes) = digit (byte / 16) ∷ digit (byte % 16) ∷ inHex bytes
+
+-- "in decimal": characters 0 to 9 that stand for the number, none of them a 0 before others
+pub record InDecimal (number : ℕ) (text : List ℕ) : Type 0 where
+  pub digits : Each Numeral text
+  pub value : valueOf text ≡ number
+  pub no-zero-first : 2 ≤ length text → 0x30 < getD text 0 0
+
+-- "R, a space, the number", and "a third field"
+abbrev pub threeFields : ℕ → ℕ → List ℕ
+threeFields number offset = 0x52 ∷ 0x20 ∷ (decimal number ++ (0x20 ∷ (decimal offset ++ (0x0a ∷ []))))
 
 -- each record in its turn by its own call, "WP high", and the lines that are printed
 pub data Printed : List Record → Device → List ℕ → Type 0 where
@@ -53,14 +64,18 @@ pub record PlayRules (script : List ℕ) : Type 0 where
   pub runs : (output : List ℕ) → scriptNumber true script erased05PA output ≡ 0 → Listed script
   -- "A refusal is one line: R, a space, the number."
   pub refused-11 : (output : List ℕ) → scriptNumber true script erased05PA output ≡ 11 → listing script ≡ 0x52 ∷ 0x20 ∷ 0x31 ∷ 0x31 ∷ 0x0a ∷ []
-  pub refused-12 : (output : List ℕ) → scriptNumber true script erased05PA output ≡ 12 → listing script ≡ 0x52 ∷ 0x20 ∷ 0x31 ∷ 0x32 ∷ 0x0a ∷ []
+  -- 12, 13, 14 "with the offset of the first bad record's mark, which `play` prints as a third field, in decimal" (02, A1)
+  pub refused-bad : (number : ℕ) (output : List ℕ) → (number ≡ 12) ⊎ (number ≡ 13) ⊎ (number ≡ 14) → scriptNumber true script erased05PA output ≡ number
+      → listing script ≡ threeFields number (scriptOffset true script erased05PA output)
+  pub in-decimal : (number : ℕ) → number < 100000 → InDecimal number (decimal number)
   -- and the call gives no other number where the outputs have their room
   pub room : List ℕ
   pub in-that-room : (scriptNumber true script erased05PA room ≡ 0) ⊎ (scriptNumber true script erased05PA room ≡ 11)
-      ⊎ (scriptNumber true script erased05PA room ≡ 12)
+      ⊎ (scriptNumber true script erased05PA room ≡ 12) ⊎ (scriptNumber true script erased05PA room ≡ 13) ⊎ (scriptNumber true script erased05PA room ≡ 14)
   -- 11, "script over 32,768", whatever its bytes are
   pub too-long : ScriptTooLong script → listing script ≡ 0x52 ∷ 0x20 ∷ 0x31 ∷ 0x31 ∷ 0x0a ∷ []
-  -- 12, "some record malformed or cut short"
-  pub bad-record : length script ≤ 32768 → BadScript script → listing script ≡ 0x52 ∷ 0x20 ∷ 0x31 ∷ 0x32 ∷ 0x0a ∷ []
+  -- and of any other script with a bad record, the first one's number and offset
+  pub bad-record : (number offset : ℕ) → length script ≤ 32768 → (number ≡ 12) ⊎ (number ≡ 13) ⊎ (number ≡ 14) → FirstBad script offset number
+      → listing script ≡ threeFields number offset
   -- "empty is a script": "S 00" alone
   pub empty : script ≡ [] → listing script ≡ 0x53 ∷ 0x20 ∷ 0x30 ∷ 0x30 ∷ 0x0a ∷ []

@@ -1,20 +1,15 @@
 -- Refusal numbers, in the order checked (01): for each call its numbers with their conditions in words, as the table gives them.
--- Making a chip: `NewChips` (specs/Power.antt).
+-- Making a chip: `NewChips` (specs/Power.antt). The reader and the survey of a script: specs/BadRecords.antt.
 use mathlib.Core.Path.{_≡_}
-use mathlib.Core.Bool.{Bool, true, false}
+use mathlib.Core.Bool.{Bool}
 use mathlib.Core.List.{List, [], _∷_}
 use Prim.Native.Nat.{ℕ, _<_}
-use lib.Dec.{eqb}
-use lib.ListN.{length}
 use Rattle.common.specs.Bits.{Bytes}
-use Rattle.common.specs.Refusals.{Exactly}
 use Rattle.state.specs.declared.State.{State}
 use Rattle.state.specs.Power.{powerUp}
 use Rattle.state.specs.Time.{passTime}
 use Rattle.frame.specs.Device.{Device}
 use Rattle.frame.specs.Call.{FrameRun, CutRun}
-use Rattle.script.specs.Answers.{numberOf}
-use Rattle.script.specs.Reader.{recordAt}
 use Rattle.run.specs.declared.Ran.{Ran}
 use Rattle.run.specs.Script.{ScriptRun}
 use Rattle.plan.specs.declared.Planned.{Planned}
@@ -32,40 +27,9 @@ use Rattle.rules.specs.Conditions.{
   StatusLocked,
   BufferTooShort,
   ScriptTooLong,
-  BadScript,
-  BadRecord,
 }
-
--- ---- a table of refusals
-
--- a number, "given exactly when" this holds and nothing that is checked before it
-pub record Check : Type 1 where
-  pub number : ℕ
-  pub condition : Type 0
-
-infix 70 _when_
-abbrev pub _when_ : ℕ → Type 0 → Check
-number when condition = record { number = number; condition = condition }
-
-abbrev pub FirstBy : Bool → Type 0 → Type 0 → Type 0
-FirstBy true own later = own
-FirstBy false own later = (own → ⊥) × later
-
--- the number's own condition holds and no earlier one does
-abbrev pub FirstIs : ℕ → List Check → Type 0
-FirstIs number [] = ⊥
-FirstIs number (c ∷ cs) = FirstBy (eqb (c .number) number) (c .condition) (FirstIs number cs)
-
-abbrev pub NoneHolds : List Check → Type 0
-NoneHolds [] = Unit {0}
-NoneHolds (c ∷ cs) = (c .condition → ⊥) × NoneHolds cs
-
--- a call's number by its table
-pub record Numbered (number : ℕ) (checks : List Check) : Type 0 where
-  -- "given exactly when", "in the order checked"; no number that the table lacks is given
-  pub given : (n : ℕ) → 0 < n → Exactly (number ≡ n) (FirstIs n checks)
-  -- "An accepted call's number is 0."
-  pub accepted : Exactly (number ≡ 0) (NoneHolds checks)
+use Rattle.rules.specs.Numbered.{_when_, Numbered}
+use Rattle.rules.specs.BadRecords.{Bad, Located}
 
 -- ---- the calls: "Order is by number, except that a script is checked 1, 2, 11, 12, 4."
 
@@ -122,20 +86,20 @@ pub record PlanRefusals (s : State) (wp : Bool) (array : List ℕ) (start : ℕ)
   pub refusal-keeps : 0 < planned .number
       → (planned ≡ record { number = planned .number; state = s; length = 0; frames = 0; microseconds = 0 }) × (after ≡ buffer)
 
--- a script: "checked 1, 2, 11, 12, 4"
+-- a script: "checked 1, 2, 11, 12, 4" (01), and 12 split in three (02, A1)
 pub record ScriptRefusals (wp : Bool) (script : List ℕ) (d : Device) (output : List ℕ) (ran : Ran) (after : Device) (outputAfter : List ℕ) (bytes : Bytes script)
     (run : ScriptRun wp script d output ran after outputAfter) : Type 0 where
   pub numbers : Numbered (ran .number)
       (1 when NotSound (d .state)
       ∷ 2 when WrongArray (d .state) (d .array)
       ∷ 11 when ScriptTooLong script
-      ∷ 12 when BadScript script
+      ∷ 12 when Bad script 12
+      ∷ 13 when Bad script 13
+      ∷ 14 when Bad script 14
       ∷ 4 when WrongSum script output
       ∷ [])
   -- "A refusal changes no buffer and returns the given state, .. counts 0"; "nothing is run"
   pub refusal-keeps : 0 < ran .number
-      → (ran ≡ record { number = ran .number; state = d .state; frames = 0; microseconds = 0 }) × ((after ≡ d) × (outputAfter ≡ output))
-
--- the reader
-pub record ReaderRefusals (script : List ℕ) (offset : ℕ) : Type 0 where
-  pub numbers : Numbered (numberOf (recordAt script offset)) (11 when ScriptTooLong script ∷ 12 when BadRecord script offset ∷ [])
+      → (ran ≡ record { number = ran .number; state = d .state; frames = 0; microseconds = 0; offset = ran .offset }) × ((after ≡ d) × (outputAfter ≡ output))
+  -- "with the offset of the first bad record's mark"
+  pub located : Located script (ran .number) (ran .offset)

@@ -50,7 +50,7 @@ pub record ScriptRules (wp : Bool) (d : Device) : Type 0 where
   -- a length that is not "1 to 4,101", wherever it stands and whatever follows
   pub wrong-length-is-none : (rs : List Record) (high low : ℕ) (rest output : List ℕ) → Each Writable rs
       → length (encode rs ++ (0x5a ∷ 0x46 ∷ high ∷ low ∷ rest)) ≤ 32768 → (high * 256 + low ≡ 0) ⊎ (4102 ≤ high * 256 + low)
-      → scriptNumber wp (encode rs ++ (0x5a ∷ 0x46 ∷ high ∷ low ∷ rest)) d output ≡ 12
+      → scriptNumber wp (encode rs ++ (0x5a ∷ 0x46 ∷ high ∷ low ∷ rest)) d output ≡ 13
   -- "a script's: the sum" (refusal 4)
   pub no-output : outputLength [] ≡ 0
   pub frame-output : (f : List ℕ) (rs : List Record) → outputLength (frame f ∷ rs) ≡ length f + outputLength rs

@@ -53,6 +53,8 @@ pub record ReaderRules (script : List ℕ) (offset : ℕ) : Type 0 where
   pub end-offset : {next : ℕ} → recordAt script offset ≡ End next → next ≡ offset
   -- a length that is not "1 to 4,101" is refused, whatever follows
   pub wrong-length-refused : (high low : ℕ) (rest : List ℕ) → length script ≤ 32768 → drop offset script ≡ 0x5a ∷ 0x46 ∷ high ∷ low ∷ rest
-      → (high * 256 + low ≡ 0) ⊎ (4102 ≤ high * 256 + low) → recordAt script offset ≡ Refused 12 offset
+      → (high * 256 + low ≡ 0) ⊎ (4102 ≤ high * 256 + low) → recordAt script offset ≡ Refused 13 offset
+  -- "A reader's offset past the end is 14." (02, A1)
+  pub past-refused : length script ≤ 32768 → length script < offset → recordAt script offset ≡ Refused 14 offset
   -- "At most 32,768 bytes"
   pub too-long-refused : 32769 ≤ length script → recordAt script offset ≡ Refused 11 offset

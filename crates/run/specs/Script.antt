@@ -1,31 +1,27 @@
 -- The call "run a script" (01, "Scripts and plans"): its refusals in the order checked, and what it answers and leaves.
 use mathlib.Core.Path.{_≡_}
-use mathlib.Core.Bool.{Bool, not}
-use mathlib.Core.List.{List, [], _∷_}
+use mathlib.Core.Bool.{Bool, cond, not, _||_}
+use mathlib.Core.List.{List, [], _∷_, _++_}
 use Prim.Native.Nat.{ℕ, _≤_}
-use lib.Dec.{ltb, eqb}
+use lib.Dec.{eqb}
 use lib.ListN.{length}
 use Rattle.common.specs.Limits.{longestScript}
-use Rattle.common.specs.Refusals.{stateNotSound, wrongArray, wrongOutput, scriptTooLong, unknownMark, wrongLength, cutShort, firstOf, accepted}
+use Rattle.common.specs.Refusals.{stateNotSound, wrongArray, wrongOutput, unknownMark, wrongLength, cutShort, firstOf, accepted}
 use Rattle.state.specs.State.{dataOf}
 use Rattle.state.specs.Soundness.{isSound, Sound}
 use Rattle.script.specs.Record.{Record, framesIn, microsecondsIn, outputLength}
-use Rattle.script.specs.Decode.{isUnknownMark, isWrongLength, isCutShort, records, isBad, decode, recordsOf}
+use Rattle.script.specs.Decode.{records, badOffset, decode, recordsOf}
+use Rattle.script.specs.Survey.{surveyRefusals}
 use Rattle.frame.specs.Device.{Device}
 use Rattle.run.specs.declared.Ran.{Ran}
 use Rattle.run.specs.Run.{run, outputs}
 
--- the level of WP, the script, the chip and the lent output: "a script is checked 1, 2, 11, 12, 4"
+-- the level of WP, the script, the chip and the lent output: "a script is checked 1, 2, 11, 12, 4", the 12 being its first bad record's 12, 13 or 14
 abbrev pub scriptRefusals : Bool → List ℕ → Device → List ℕ → List (ℕ × Bool)
 scriptRefusals wp script d output =
     (stateNotSound, not (isSound (d .state)))
     ∷ (wrongArray, not (eqb (length (d .array)) (dataOf (d .state) .size)))
-    ∷ (scriptTooLong, ltb longestScript (length script))
-    ∷ (unknownMark, isBad isUnknownMark (decode script))
-    ∷ (wrongLength, isBad isWrongLength (decode script))
-    ∷ (cutShort, isBad isCutShort (decode script))
-    ∷ (wrongOutput, not (eqb (length output) (outputLength (recordsOf script))))
-    ∷ []
+    ∷ (surveyRefusals script ++ ((wrongOutput, not (eqb (length output) (outputLength (recordsOf script)))) ∷ []))
 
 unfoldable pub scriptNumber : Bool → List ℕ → Device → List ℕ → ℕ
 scriptNumber wp script d output = firstOf (scriptRefusals wp script d output)
@@ -54,11 +50,20 @@ scriptOutput wp script d output = accepted (scriptNumber wp script d output) (ou
 unfoldable pub scriptCount : (List Record → ℕ) → Bool → List ℕ → Device → List ℕ → ℕ
 scriptCount count wp script d output = accepted (scriptNumber wp script d output) (count (recordsOf script)) 0
 
+-- 12, 13 and 14: "these three alone carry an offset" (02, A1)
+abbrev pub carriesOffset : ℕ → Bool
+carriesOffset number = eqb number unknownMark || eqb number wrongLength || eqb number cutShort
+
+-- "the offset of the first bad record's mark"; 0 with all other numbers
+unfoldable pub scriptOffset : Bool → List ℕ → Device → List ℕ → ℕ
+scriptOffset wp script d output = cond (carriesOffset (scriptNumber wp script d output)) (badOffset (decode script)) 0
+
 -- what the call answers and leaves; the answer has the chip's state
 pub record ScriptRun (wp : Bool) (script : List ℕ) (d : Device) (output : List ℕ) (ran : Ran) (after : Device) (outputAfter : List ℕ) : Type 0 where
   pub number-is : ran .number ≡ scriptNumber wp script d output
   pub state-is : ran .state ≡ scriptDevice wp script d output .state
   pub frames-are : ran .frames ≡ scriptCount framesIn wp script d output
   pub microseconds-are : ran .microseconds ≡ scriptCount microsecondsIn wp script d output
+  pub offset-is : ran .offset ≡ scriptOffset wp script d output
   pub device-is : after ≡ scriptDevice wp script d output
   pub output-is : outputAfter ≡ scriptOutput wp script d output

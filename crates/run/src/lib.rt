@@ -2,20 +2,32 @@
 mod records;
 
 use common::refusals;
-use script::survey::Survey;
+use script::survey::Surveyed;
 use state::State;
 ghost use mathlib.Core.Path.{_≡_};
+ghost use mathlib.Core.Bool.{cond};
 ghost use Rattle.frame.specs.Device.{device};
 ghost use Rattle.script.specs.Survey.{surveyOf};
-ghost use Rattle.run.specs.Script.{scriptNumber, ScriptRun};
+ghost use Rattle.run.specs.Script.{scriptNumber, carriesOffset, ScriptRun};
 
-// What running a script answers: number 0 with the chip's state and the counts, or the refusal's number with the given state.
+// What running a script answers: number 0 with the chip's state and the counts, or the refusal's number with the given state and, where it
+// carries one, the offset of the first bad record's mark.
 #[repr(C)]
 pub struct Ran {
     pub number: u32,
     pub state: State,
     pub frames: u32,
     pub microseconds: u64,
+    pub offset: usize,
+}
+
+// Whether a refusal comes with the offset of a record.
+pub fn carries_offset(number: u32) -> bool
+    ensures { λ r. ⌜ r ≡ carriesOffset number ⌝ }
+{
+    (number == refusals::UNKNOWN_MARK)
+        | (number == refusals::WRONG_LENGTH)
+        | (number == refusals::CUT_SHORT)
 }
 
 // The script's own refusals are its survey's.
@@ -24,7 +36,7 @@ fn script_number(
     wp: bool,
     array: &[u8],
     script: &[u8],
-    survey: Survey,
+    survey: Surveyed,
     output: &[u8],
 ) -> u32
     requires { ⌜ survey ≡ surveyOf (now script) ⌝ }
@@ -45,6 +57,17 @@ fn script_number(
     0
 }
 
+// The survey's offset, with the refusals that carry one.
+fn script_offset(number: u32, survey: Surveyed) -> usize
+    ensures { λ r. ⌜ r ≡ cond (carriesOffset number) (survey .offset) 0 ⌝ }
+{
+    if carries_offset(number) {
+        survey.offset
+    } else {
+        0
+    }
+}
+
 // Run a script, with one WP level for all its frames. Every record is checked before the first is run.
 pub fn run_script(s: State, wp: bool, array: &mut [u8], script: &[u8], output: &mut [u8]) -> Ran
     ensures { λ r. ⌜ ScriptRun wp (now (script .entry)) (device s (now (array .entry))) (now (output .entry)) r (device (r .state) (now (array .exit))) (now (output .exit)) ⌝ }
@@ -57,6 +80,7 @@ pub fn run_script(s: State, wp: bool, array: &mut [u8], script: &[u8], output: &
             state: s,
             frames: 0,
             microseconds: 0,
+            offset: script_offset(number, survey),
         };
     }
     let state = records::run_records(s, wp, array, script, output);
@@ -65,5 +89,6 @@ pub fn run_script(s: State, wp: bool, array: &mut [u8], script: &[u8], output: &
         state,
         frames: survey.frames,
         microseconds: survey.microseconds,
+        offset: 0,
     }
 }

@@ -7,5 +7,6 @@ pub mod Reader
 pub mod Answers
 pub mod Values
 pub mod Survey
+pub mod Bad
 pub mod Writer
 pub mod Measure

@@ -1,4 +1,4 @@
--- Bytes read as records (01, "Scripts and plans"; refusal 12).
+-- Bytes read as records (01, "Scripts and plans"; refusals 12, 13, 14).
 use mathlib.Core.Bool.{Bool, true, false, cond, _&&_, _||_}
 use mathlib.Core.List.{List, [], _∷_}
 use Prim.Native.Nat.{ℕ, zero, suc, _+_}
@@ -9,7 +9,7 @@ use Rattle.common.specs.Numbers.{twoBytes, fourBytes}
 use Rattle.common.specs.Limits.{longestFrame}
 use Rattle.common.specs.Refusals
 
--- why a record is "malformed or cut short"
+-- why a record is "malformed or cut short" (01): "unknown mark", "frame length 0 or over 4,101", "record cut short" (02, A1)
 pub data Fault : Type 0 where
   unknownMark : Fault
   wrongLength : Fault
@@ -79,10 +79,15 @@ abbrev pub recordsIn : Decoded → List Record
 recordsIn (records rs) = rs
 recordsIn (badAt fault offset) = []
 
--- "some record malformed or cut short" (01, refusal 12), by such a fault
+-- the first bad record has such a fault
 abbrev pub isBad : (Fault → Bool) → Decoded → Bool
 isBad is (records rs) = false
 isBad is (badAt fault offset) = is fault
+
+-- the offset of the first bad record's mark; 0 where none is bad
+abbrev pub badOffset : Decoded → ℕ
+badOffset (records rs) = 0
+badOffset (badAt fault offset) = offset
 
 -- a record, and behind it what the other bytes are
 abbrev pub followed : Record → Decoded → Decoded

@@ -1,4 +1,4 @@
--- The reader of one record (01, "Scripts and plans"; refusals 11, 12).
+-- The reader of one record (01, "Scripts and plans"; refusals 11, 12, 13, 14).
 use mathlib.Core.Path.{_≡_}
 use mathlib.Core.Bool.{cond}
 use mathlib.Core.List.{List, []}
@@ -24,7 +24,7 @@ fourBytesAt bytes at = twoBytesAt bytes at * 65536 + twoBytesAt bytes (at + 2)
 
 -- ---- the answer
 
--- in the order checked: 11 for a script over 32,768; 12 for "an offset past the end"; then by what stands at the offset
+-- in the order checked: 11 for a script over 32,768; "a reader's offset past the end is 14" (02, A1); then by what stands at the offset
 abbrev pub readInOrder : {A : Type 0} → (ℕ → A) → (Front → A) → List ℕ → ℕ → A
 readInOrder refused told script offset =
     cond (ltb longestScript (length script)) (refused scriptTooLong)
@@ -57,7 +57,7 @@ frontNumber end = 0
 frontNumber (item r rest) = 0
 frontNumber (malformed fault) = faultNumber fault
 
--- the reader's number: 12 is for "the record at the offset" too
+-- the reader's number: 12, 13 and 14 are for "the record at the offset"
 unfoldable pub readerNumber : List ℕ → ℕ → ℕ
 readerNumber = readInOrder (λ number. number) frontNumber
 

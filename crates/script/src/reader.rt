@@ -9,6 +9,7 @@ ghost use mathlib.Core.Path.{_≡_};
 ghost use Prim.Native.Nat.{_+_, _≤_, _<_};
 ghost use lib.ListN.{length, take, drop};
 ghost use Rattle.common.specs.Limits.{longestScript};
+ghost use Rattle.script.specs.declared.reader.Found.the-variants.{Refused};
 ghost use Rattle.script.specs.Decode.{frontFrame, frontWait, front};
 ghost use Rattle.script.specs.Reader.{twoBytesAt, fourBytesAt, answer, framePart, Answered};
 
@@ -30,6 +31,22 @@ pub enum Found {
         number: u32,
         next: usize,
     },
+}
+
+// One byte is no mark yet, whatever it is: its record is cut short.
+const HALF_MARK: u32 = refusals::CUT_SHORT;
+
+// So is one that would begin past the end.
+const PAST_END: u32 = refusals::CUT_SHORT;
+
+// A refusal gives back the offset that it got.
+fn refused(number: u32, offset: usize) -> Found
+    ensures { λ r. ⌜ r ≡ Refused number offset ⌝ }
+{
+    Found::Refused {
+        number,
+        next: offset,
+    }
 }
 
 // The number of two bytes, high first.
@@ -55,23 +72,14 @@ fn frame_at(script: &[u8], offset: usize) -> Found
 {
     let start = offset + 4;
     if script.len() < start {
-        return Found::Refused {
-            number: refusals::CUT_SHORT,
-            next: offset,
-        };
+        return refused(refusals::CUT_SHORT, offset);
     }
     let length = two_bytes_at(script, offset + 2) as usize;
     if (length < 1) | (LONGEST_FRAME < length) {
-        return Found::Refused {
-            number: refusals::WRONG_LENGTH,
-            next: offset,
-        };
+        return refused(refusals::WRONG_LENGTH, offset);
     }
     if script.len() - start < length {
-        return Found::Refused {
-            number: refusals::CUT_SHORT,
-            next: offset,
-        };
+        return refused(refusals::CUT_SHORT, offset);
     }
     Found::Frame {
         start,
@@ -87,10 +95,7 @@ fn wait_at(script: &[u8], offset: usize) -> Found
 {
     let next = offset + 6;
     if script.len() < next {
-        return Found::Refused {
-            number: refusals::CUT_SHORT,
-            next: offset,
-        };
+        return refused(refusals::CUT_SHORT, offset);
     }
     Found::Wait {
         microseconds: four_bytes_at(script, offset + 2),
@@ -108,10 +113,7 @@ pub fn front_at(script: &[u8], offset: usize) -> Found
         return Found::End { next: offset };
     }
     if script.len() - offset < 2 {
-        return Found::Refused {
-            number: refusals::CUT_SHORT,
-            next: offset,
-        };
+        return refused(HALF_MARK, offset);
     }
     let first = script[offset];
     let second = script[offset + 1];
@@ -121,10 +123,7 @@ pub fn front_at(script: &[u8], offset: usize) -> Found
     if (first == SCRIPT_MARK) & (second == WAIT_MARK) {
         return wait_at(script, offset);
     }
-    Found::Refused {
-        number: refusals::UNKNOWN_MARK,
-        next: offset,
-    }
+    refused(refusals::UNKNOWN_MARK, offset)
 }
 
 // The record at an offset of a script. It looks at this one record only.
@@ -132,16 +131,10 @@ pub fn record_at(script: &[u8], offset: usize) -> Found
     ensures { λ r. ⌜ Answered (now (script .entry)) offset r ⌝ }
 {
     if LONGEST_SCRIPT < script.len() {
-        return Found::Refused {
-            number: refusals::SCRIPT_TOO_LONG,
-            next: offset,
-        };
+        return refused(refusals::SCRIPT_TOO_LONG, offset);
     }
     if script.len() < offset {
-        return Found::Refused {
-            number: refusals::CUT_SHORT,
-            next: offset,
-        };
+        return refused(PAST_END, offset);
     }
     front_at(script, offset)
 }

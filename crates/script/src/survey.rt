@@ -1,4 +1,4 @@
-// A whole script, looked through before it is run.
+// A whole script, looked through without running it.
 use super::reader::Found;
 use super::reader::front_at;
 use common::limits::LONGEST_SCRIPT;
@@ -6,43 +6,45 @@ use common::refusals;
 ghost use mathlib.Core.Path.{_≡_};
 ghost use Rattle.script.specs.Survey.{countedSurvey, refusedSurvey, surveyOf};
 
-// The refusal's number with the offset of the first bad record's mark; or number 0 and what the records count.
-pub struct Survey {
+// Number 0 and what the records count, the bytes of output among them; or the refusal's number, with the offset of the first bad record's mark
+// unless the script is too long.
+#[repr(C)]
+pub struct Surveyed {
     pub number: u32,
-    pub offset: usize,
     pub frames: u32,
     pub microseconds: u64,
+    pub offset: usize,
     pub output: usize,
 }
 
 // Of a script that can be run.
-fn counted_survey(frames: u32, microseconds: u64, output: usize) -> Survey
+fn counted_survey(frames: u32, microseconds: u64, output: usize) -> Surveyed
     ensures { λ r. ⌜ r ≡ countedSurvey frames microseconds output ⌝ }
 {
-    Survey {
+    Surveyed {
         number: 0,
-        offset: 0,
         frames,
         microseconds,
+        offset: 0,
         output,
     }
 }
 
 // Of a refused script.
-fn refused_survey(number: u32, offset: usize) -> Survey
+fn refused_survey(number: u32, offset: usize) -> Surveyed
     ensures { λ r. ⌜ r ≡ refusedSurvey number offset ⌝ }
 {
-    Survey {
+    Surveyed {
         number,
-        offset,
         frames: 0,
         microseconds: 0,
+        offset,
         output: 0,
     }
 }
 
 // The whole script in one pass over its records.
-pub fn survey_of(script: &[u8]) -> Survey
+pub fn survey_of(script: &[u8]) -> Surveyed
     ensures { λ r. ⌜ r ≡ surveyOf (now (script .entry)) ⌝ }
 {
     if LONGEST_SCRIPT < script.len() {

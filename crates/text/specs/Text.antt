@@ -1,7 +1,7 @@
 -- Lines of text, each character by its ASCII code (01, program `play`).
 use mathlib.Core.Bool.{cond}
 use mathlib.Core.List.{List, [], _∷_, _++_}
-use Prim.Native.Nat.{ℕ, _+_, _-_, _/_, _%_}
+use Prim.Native.Nat.{ℕ, zero, suc, _+_, _-_, _*_, _/_, _%_, _≤_}
 use lib.Dec.{ltb}
 
 -- a digit below 16, in "capital hex": 0 to 9, then A to F
@@ -17,14 +17,52 @@ unfoldable pub hex : List ℕ → List ℕ
 hex [] = []
 hex (byte ∷ bytes) = pair byte ++ hex bytes
 
--- a number below 100, in decimal
+-- a number in at most so many digits: the last one, behind the others where there are any
+unfoldable pub decimalWithin : ℕ → ℕ → List ℕ
+decimalWithin zero n = []
+decimalWithin (suc k) n = cond (ltb n 10) (digit n ∷ []) (decimalWithin k (n / 10) ++ (digit (n % 10) ∷ []))
+
+-- numbers below it have at most five digits
+abbrev pub decimalEnd : ℕ
+decimalEnd = 100000
+
+-- such a number, in decimal
 unfoldable pub decimal : ℕ → List ℕ
-decimal n = cond (ltb n 10) (digit n ∷ []) (digit (n / 10) ∷ digit (n % 10) ∷ [])
+decimal n = decimalWithin 5 n
+
+-- a character 0 to 9
+abbrev pub Numeral : ℕ → Type 0
+Numeral c = (0x30 ≤ c) × (c ≤ 0x39)
+
+-- the number that such characters stand for, behind others that stand for v
+unfoldable pub valueFrom : ℕ → List ℕ → ℕ
+valueFrom v [] = v
+valueFrom v (c ∷ cs) = valueFrom (10 * v + (c - 0x30)) cs
+
+abbrev pub valueOf : List ℕ → ℕ
+valueOf cs = valueFrom 0 cs
+
+-- a number behind "a space"
+abbrev pub spaced : ℕ → List ℕ
+spaced n = 0x20 ∷ decimal n
+
+-- several numbers, each so
+unfoldable pub decimals : List ℕ → List ℕ
+decimals [] = []
+decimals (n ∷ ns) = spaced n ++ decimals ns
 
 -- what ends a line (ours)
 abbrev pub lineFeed : ℕ
 lineFeed = 0x0a
 
+-- a line: a letter, what stands behind it, and a line feed
+abbrev pub lineOf : ℕ → List ℕ → List ℕ
+lineOf letter behind = letter ∷ (behind ++ (lineFeed ∷ []))
+
 -- a letter and "a space", what the line tells, and a line feed
 abbrev pub line : ℕ → List ℕ → List ℕ
-line letter told = (letter ∷ 0x20 ∷ []) ++ (told ++ (lineFeed ∷ []))
+line letter told = lineOf letter (0x20 ∷ told)
+
+-- a letter, the numbers and a line feed
+abbrev pub decimalsLine : ℕ → List ℕ → List ℕ
+decimalsLine letter numbers = lineOf letter (decimals numbers)

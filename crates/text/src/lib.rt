@@ -4,7 +4,8 @@ ghost use mathlib.Core.Path.{_≡_};
 ghost use Prim.Native.Nat.{_+_, _≤_, _<_};
 ghost use lib.ListN.{length};
 ghost use Rattle.common.specs.Buffer.{Put};
-ghost use Rattle.text.specs.Text.{digit, pair, hex, decimal, line};
+ghost use Rattle.common.specs.Lists.{Each};
+ghost use Rattle.text.specs.Text.{digit, pair, hex, decimalEnd, decimal, spaced, decimals, line, decimalsLine};
 
 // What ends a line.
 const LINE_FEED: u8 = b'\n';
@@ -43,20 +44,42 @@ fn put_hex(bytes: &[u8], text: &mut [u8], at: usize) -> usize
     next
 }
 
-// A number below 100.
+// A number below 100,000: its last digit behind the others.
 fn put_decimal(number: u32, text: &mut [u8], at: usize) -> usize
-    requires { ⌜ number < 100 ⌝ }
+    requires { ⌜ number < decimalEnd ⌝ }
     requires { ⌜ at + length (decimal number) ≤ length (now text) ⌝ }
     ensures { λ r. ⌜ Put at (decimal number) (now (text .entry)) (now (text .exit)) r ⌝ }
 {
     if number < 10 {
         return put(&[digit(number as u8)], text, at);
     }
-    put(
-        &[digit((number / 10) as u8), digit((number % 10) as u8)],
-        text,
-        at,
-    )
+    let last = put_decimal(number / 10, text, at);
+    put(&[digit((number % 10) as u8)], text, last)
+}
+
+// A number behind a space.
+fn put_spaced(number: u32, text: &mut [u8], at: usize) -> usize
+    requires { ⌜ number < decimalEnd ⌝ }
+    requires { ⌜ at + length (spaced number) ≤ length (now text) ⌝ }
+    ensures { λ r. ⌜ Put at (spaced number) (now (text .entry)) (now (text .exit)) r ⌝ }
+{
+    let begun = put(&[b' '], text, at);
+    put_decimal(number, text, begun)
+}
+
+// Several numbers, each so.
+fn put_decimals(numbers: &[u32], text: &mut [u8], at: usize) -> usize
+    requires { ⌜ Each (λ n. n < decimalEnd) (now numbers) ⌝ }
+    requires { ⌜ at + length (decimals (now numbers)) ≤ length (now text) ⌝ }
+    ensures { λ r. ⌜ Put at (decimals (now (numbers .entry))) (now (text .entry)) (now (text .exit)) r ⌝ }
+{
+    let mut next = at;
+    let mut i: usize = 0;
+    while i < numbers.len() {
+        next = put_spaced(numbers[i], text, next);
+        i += 1;
+    }
+    next
 }
 
 // A letter and what bytes it stands for, in hex.
@@ -69,13 +92,13 @@ pub fn put_hex_line(letter: u8, bytes: &[u8], text: &mut [u8], at: usize) -> usi
     put(&[LINE_FEED], text, told)
 }
 
-// A letter and a number below 100.
-pub fn put_decimal_line(letter: u8, number: u32, text: &mut [u8], at: usize) -> usize
-    requires { ⌜ number < 100 ⌝ }
-    requires { ⌜ at + length (line letter (decimal number)) ≤ length (now text) ⌝ }
-    ensures { λ r. ⌜ Put at (line letter (decimal number)) (now (text .entry)) (now (text .exit)) r ⌝ }
+// A letter and numbers below 100,000, each behind a space.
+pub fn put_decimals_line(letter: u8, numbers: &[u32], text: &mut [u8], at: usize) -> usize
+    requires { ⌜ Each (λ n. n < decimalEnd) (now numbers) ⌝ }
+    requires { ⌜ at + length (decimalsLine letter (now numbers)) ≤ length (now text) ⌝ }
+    ensures { λ r. ⌜ Put at (decimalsLine letter (now (numbers .entry))) (now (text .entry)) (now (text .exit)) r ⌝ }
 {
-    let begun = put(&[letter, b' '], text, at);
-    let told = put_decimal(number, text, begun);
+    let begun = put(&[letter], text, at);
+    let told = put_decimals(numbers, text, begun);
     put(&[LINE_FEED], text, told)
 }

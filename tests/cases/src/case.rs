@@ -1,9 +1,9 @@
 //! One case: a call and all that it is given.
 
 use std::borrow::Cow;
-use std::ops::Range;
+use std::ops::{Range, RangeInclusive};
 
-use model::{kind, Answer, Calls, Model, Planned, Ran, Record, State};
+use model::{kind, Answer, Calls, Model, Planned, Ran, Record, State, Surveyed};
 
 use crate::size;
 
@@ -17,8 +17,12 @@ pub enum Case {
     Cut { on: On, frame: Vec<u8>, output: usize, mask: Mask },
     Plan { on: On, start: usize, wanted: Vec<u8>, room: usize },
     Run { on: On, script: Vec<u8>, output: usize },
+    Survey { script: Vec<u8> },
     Read { script: Vec<u8>, offset: usize },
 }
+
+/// The refusals that say what is wrong with a record.
+pub const BAD_RECORD: RangeInclusive<u32> = 12..=14;
 
 /// The chip a call is made on.
 #[derive(Clone, Debug)]
@@ -44,6 +48,7 @@ pub enum Outcome {
     Frame { number: u32, state: State },
     Planned(Planned),
     Ran(Ran),
+    Surveyed(Surveyed),
     Record(Record),
 }
 
@@ -82,8 +87,20 @@ impl Outcome {
             Outcome::Frame { number, .. } => *number,
             Outcome::Planned(planned) => planned.number,
             Outcome::Ran(ran) => ran.number,
+            Outcome::Surveyed(surveyed) => surveyed.number,
             Outcome::Record(record) => record.number,
         }
+    }
+
+    /// Where the call says that a bad record is, if it says so.
+    pub fn bad_record(&self) -> Option<usize> {
+        let offset = match self {
+            Outcome::Ran(ran) => ran.offset,
+            Outcome::Surveyed(surveyed) => surveyed.offset,
+            Outcome::Record(record) => record.next,
+            _ => return None,
+        };
+        BAD_RECORD.contains(&self.number()).then_some(offset)
     }
 }
 
@@ -97,6 +114,7 @@ impl Case {
             Case::Cut { .. } => "cut_frame",
             Case::Plan { .. } => "plan",
             Case::Run { .. } => "run",
+            Case::Survey { .. } => "survey",
             Case::Read { .. } => "read",
         }
     }
@@ -145,6 +163,7 @@ impl Case {
             Case::Run { on, script, .. } => {
                 Outcome::Ran(C::run(on.state, on.wp_high, array, script, buffer))
             }
+            Case::Survey { script } => Outcome::Surveyed(C::survey(script)),
             Case::Read { script, offset } => Outcome::Record(C::read(script, *offset)),
         }
     }

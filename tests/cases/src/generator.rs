@@ -7,7 +7,7 @@ use crate::case::{Case, Mask, On, Outcome};
 use crate::frames::{self, FATES};
 use crate::spoil::{self, Planted};
 use crate::sweep::Sweep;
-use crate::{first_protected, plans, scripts, size, states, Rng, CHIPS, F25L008A};
+use crate::{first_protected, malform, plans, scripts, size, states, Rng, CHIPS, F25L008A};
 
 /// A case and the refusals that were planted in it.
 pub struct Item {
@@ -60,9 +60,10 @@ impl Generator {
             1 | 2 => self.power_up(chip),
             3..=8 => self.wait(chip),
             9..=14 => self.read(chip),
-            15..=24 => self.run(chip),
-            25..=42 => self.plan(chip, board),
-            43..=59 => self.frame(chip, board, true),
+            15..=18 => self.survey(chip),
+            19..=30 => self.run(chip),
+            31..=48 => self.plan(chip, board),
+            49..=65 => self.frame(chip, board, true),
             _ => self.frame(chip, board, false),
         }
     }
@@ -241,14 +242,7 @@ impl Generator {
         let spoils = rng.one_in(3);
         if spoils {
             spoil::chip(rng, &mut on, &mut planted);
-            if rng.coin() {
-                planted.plant(12);
-                scripts::malform(rng, &mut script);
-            }
-            if rng.one_in(4) {
-                planted.plant(11);
-                spoil::lengthen(rng, &mut script);
-            }
+            spoil::script(rng, &mut script, &mut planted);
         }
         let mut output = scripts::frame_bytes(&script);
         if spoils && rng.coin() {
@@ -259,26 +253,39 @@ impl Generator {
         Item::new(case, planted)
     }
 
+    fn survey(&mut self, chip: u8) -> Item {
+        let rng = &mut self.rng;
+        let mut planted = Planted::default();
+        let mut script = scripts::script(rng, chip);
+        if !rng.one_in(3) {
+            spoil::script(rng, &mut script, &mut planted);
+        }
+        let case = Case::Survey { script };
+        Item::new(case, planted)
+    }
+
     fn read(&mut self, chip: u8) -> Item {
         let rng = &mut self.rng;
         let mut planted = Planted::default();
         let mut script = scripts::script(rng, chip);
-        if rng.one_in(3) {
-            scripts::malform(rng, &mut script);
+        if rng.coin() {
+            malform::somewhere(rng, &mut script);
         }
         if rng.one_in(8) {
             planted.plant(11);
             spoil::lengthen(rng, &mut script);
         }
         let length = script.len();
-        let offset = match rng.below(8) {
+        let boundaries = scripts::boundaries(&script);
+        let offset = match rng.below(10) {
             0 => length,
             1 => rng.below(length + 1),
             2 => {
-                planted.plant(12);
+                planted.plant(14);
                 rng.pick(&[length + 1, length + 2, length + 7, usize::MAX - 3, usize::MAX])
             }
-            _ => rng.pick(&scripts::boundaries(&script)),
+            3..=5 => boundaries[boundaries.len() - 1],
+            _ => rng.pick(&boundaries),
         };
         let case = Case::Read { script, offset };
         Item::new(case, planted)

@@ -1,22 +1,28 @@
-//! Random and edge cases for any two who answer the eight calls, compared with each other.
+//! Random and edge cases for any two who answer the nine calls, compared with each other.
 
 pub mod counts;
-pub mod levels;
 pub mod literal;
 pub mod plans;
-pub mod samples;
 pub mod states;
 
+mod bad_records;
 mod board;
 mod case;
 mod chip;
 mod compare;
 mod frames;
 mod generator;
+mod levels;
+mod malform;
 mod rng;
+mod samples;
+mod script_sweep;
 mod scripts;
 mod spoil;
+mod surveys;
 mod sweep;
+
+use model::Calls;
 
 pub use case::{Case, Outcome};
 pub use compare::{explore, Difference};
@@ -29,6 +35,18 @@ pub const CHIPS: [u8; 2] = [F25L008A, F25L05PA];
 
 /// The first addresses that the levels of the 008A protect, and its size.
 pub const BORDERS: [usize; 5] = [0x08_0000, 0x0C_0000, 0x0E_0000, 0x0F_0000, 0x10_0000];
+
+/// The names of the cases written out, with their answers, that fail: 01's samples, the levels of
+/// protection, bad records and surveys.
+pub fn written_out<C: Calls>() -> Vec<String> {
+    [
+        samples::failing::<C>(),
+        levels::failing::<C>(),
+        bad_records::failing::<C>(),
+        surveys::failing::<C>(),
+    ]
+    .concat()
+}
 
 /// The bytes of a chip; of an unknown one those of the 05PA.
 pub fn size(chip: u8) -> usize {

@@ -53,6 +53,10 @@ fn write(case: &Case, board: &mut Board, to: &mut String) -> std::fmt::Result {
             writeln!(to, "let mut output = vec![0x5A_u8; {output}];")?;
             writeln!(to, "Library::run(state, wp_high, &mut array, &script, &mut output);")
         }
+        Case::Survey { script } => {
+            writeln!(to, "let script = {};", bytes_text(script))?;
+            writeln!(to, "Library::survey(&script);")
+        }
         Case::Read { script, offset } => {
             writeln!(to, "let script = {};", bytes_text(script))?;
             writeln!(to, "Library::read(&script, {offset});")

@@ -116,13 +116,7 @@ fn one_byte_plan<C: Calls>() -> bool {
 }
 
 fn play<C: Calls>() -> bool {
-    let mut script = Vec::new();
-    scripts::put_frame(&mut script, &[0x9F, 0, 0, 0]);
-    scripts::put_frame(&mut script, &[0x06]);
-    scripts::put_frame(&mut script, &[0x02, 0x00, 0x01, 0x00, 0xA5]);
-    scripts::put_wait(&mut script, 1_500);
-    scripts::put_frame(&mut script, &[0x05, 0x00]);
-    scripts::put_frame(&mut script, &[0x03, 0x00, 0x01, 0x00, 0x00, 0x00]);
+    let script = scripts::sample();
     let mut chip = Chip::<C>::new(F25L05PA);
     let mut output = [0; 18];
     let ran = C::run(chip.state, true, &mut chip.array, &script, &mut output);
@@ -131,6 +125,6 @@ fn play<C: Calls>() -> bool {
         0xFF, 0xA5, 0xFF,
     ];
     output == outputs
-        && (ran.number, ran.frames, ran.microseconds) == (0, 5, 1_500)
+        && (ran.number, ran.frames, ran.microseconds, ran.offset) == (0, 5, 1_500, 0)
         && ran.state == C::new_chip(F25L05PA).state
 }

@@ -1,4 +1,4 @@
-//! Scripts, good and bad.
+//! Good scripts, and where the records of any begin.
 
 use model::{kind, Calls, Model, LONGEST_SCRIPT};
 
@@ -14,6 +14,18 @@ pub fn put_frame(script: &mut Vec<u8>, frame: &[u8]) {
 pub fn put_wait(script: &mut Vec<u8>, microseconds: u32) {
     script.extend([0x5A, 0x57]);
     script.extend(microseconds.to_be_bytes());
+}
+
+/// The script of 01's sample of `play`.
+pub fn sample() -> Vec<u8> {
+    let mut script = Vec::new();
+    put_frame(&mut script, &[0x9F, 0, 0, 0]);
+    put_frame(&mut script, &[0x06]);
+    put_frame(&mut script, &[0x02, 0x00, 0x01, 0x00, 0xA5]);
+    put_wait(&mut script, 1_500);
+    put_frame(&mut script, &[0x05, 0x00]);
+    put_frame(&mut script, &[0x03, 0x00, 0x01, 0x00, 0x00, 0x00]);
+    script
 }
 
 /// A well-formed script, mostly of sequences that make sense.
@@ -142,42 +154,6 @@ pub fn wait(rng: &mut Rng) -> u32 {
         1 => rng.pick(&[90_000, 750_000, 1_000_000, 8_000_000, u32::MAX - 1, u32::MAX]),
         2 => rng.below(100_000) as u32,
         _ => rng.word() as u32,
-    }
-}
-
-/// Makes a script malformed, somewhere.
-pub fn malform(rng: &mut Rng, script: &mut Vec<u8>) {
-    let starts = boundaries(script);
-    let at = rng.pick(&starts);
-    match rng.below(6) {
-        0 if at < script.len() => script[at] ^= 1 << rng.below(8),
-        1 if at < script.len() => script[at + 1] = rng.pick(&[0x00, 0x45, 0x47, 0x56, 0x58, 0x5A]),
-        2 if at < script.len() => {
-            // Cut short in the middle of a record.
-            let whole = <Model>::read(script, at).next - at;
-            script.truncate(at + rng.between(1, whole - 1));
-        }
-        3 => {
-            // A frame of length 0.
-            let rest = script.split_off(at);
-            script.extend([0x5A, 0x46, 0, 0]);
-            script.extend(rest);
-        }
-        4 => {
-            // A frame one byte too long, all of it there.
-            script.truncate(at.min(LONGEST_SCRIPT - 4_200));
-            let end = boundaries(script).pop().unwrap_or(0);
-            script.truncate(end);
-            let length = rng.pick(&[4_102, 4_103, 4_150]);
-            put_frame(script, &rng.bytes(length));
-        }
-        _ => {
-            // The front of a record at the end.
-            let whole: &[u8] =
-                rng.pick(&[&[0x5A, 0x46, 0x00, 0x02, 0x05], &[0x5A, 0x57, 0x00, 0x00, 0x07]]);
-            let part = rng.between(1, whole.len());
-            script.extend(&whole[..part]);
-        }
     }
 }
 

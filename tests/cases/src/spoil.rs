@@ -3,7 +3,7 @@
 use model::{State, LONGEST_REGION, LONGEST_SCRIPT};
 
 use crate::case::On;
-use crate::{scripts, size, states, Rng, F25L008A, F25L05PA};
+use crate::{malform, scripts, size, states, Rng, F25L008A, F25L05PA};
 
 /// A set of refusal numbers.
 #[derive(Clone, Copy, Default)]
@@ -15,7 +15,7 @@ impl Planted {
     }
 
     pub fn numbers(self) -> impl Iterator<Item = u32> {
-        (1..=12).filter(move |number| self.0 >> number & 1 == 1)
+        (1..=14).filter(move |number| self.0 >> number & 1 == 1)
     }
 }
 
@@ -68,14 +68,31 @@ pub fn not_at_rest(rng: &mut Rng, chip: u8) -> State {
     }
 }
 
-/// Makes a script longer than scripts may be.
-pub fn lengthen(rng: &mut Rng, script: &mut Vec<u8>) {
+/// Maybe a bad record and another before it, maybe too many bytes.
+pub fn script(rng: &mut Rng, script: &mut Vec<u8>, planted: &mut Planted) {
     if rng.coin() {
+        planted.plant(malform::somewhere(rng, script));
+        let earlier = if rng.coin() { malform::earlier(rng, script) } else { None };
+        earlier.into_iter().for_each(|number| planted.plant(number));
+    }
+    if rng.one_in(4) {
+        planted.plant(11);
+        lengthen(rng, script);
+    }
+}
+
+/// Makes a script longer than scripts may be: good records come in front of it, so that a bad
+/// one in it stays bad. Now and then it is all zeros.
+pub fn lengthen(rng: &mut Rng, script: &mut Vec<u8>) {
+    if rng.one_in(4) {
+        script.clear();
         script.resize(LONGEST_SCRIPT + rng.pick(&[1, 2, 1_000]), 0);
     }
-    while script.len() <= LONGEST_SCRIPT {
-        scripts::put_wait(script, 7);
+    let mut front = Vec::new();
+    while front.len() + script.len() <= LONGEST_SCRIPT {
+        scripts::put_wait(&mut front, 7);
     }
+    script.splice(..0, front);
 }
 
 /// A wrong length instead of this right one.

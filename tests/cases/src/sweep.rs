@@ -1,8 +1,9 @@
-//! The cases that are gone through one by one: chip numbers, states and short frames.
+//! The cases that are gone through one by one: chip numbers, scripts, states and short frames.
 
 use model::State;
 
 use crate::case::{Case, On};
+use crate::script_sweep::ScriptSweep;
 use crate::{frames, size, Rng, CHIPS, F25L008A, F25L05PA};
 
 const CHIP_NUMBERS: usize = 256;
@@ -39,6 +40,7 @@ const LENGTHS: usize = 8;
 
 pub struct Sweep {
     at: usize,
+    scripts: ScriptSweep,
     /// States, and whether WP is high, in which each short frame is tried.
     tried: Vec<(State, bool)>,
 }
@@ -50,12 +52,13 @@ impl Sweep {
             .flat_map(tried)
             .flat_map(|state| [(state, false), (state, true)])
             .collect();
-        Self { at: 0, tried }
+        Self { at: 0, scripts: ScriptSweep::new(), tried }
     }
 
     /// How many cases it has.
     pub fn length() -> usize {
-        CHIP_NUMBERS + STATES + OPCODES * LENGTHS * Self::new().tried.len()
+        let Self { scripts, tried, .. } = Self::new();
+        CHIP_NUMBERS + scripts.length() + STATES + OPCODES * LENGTHS * tried.len()
     }
 
     pub fn next(&mut self, rng: &mut Rng) -> Option<Case> {
@@ -65,6 +68,10 @@ impl Sweep {
             return Some(Case::New { chip: at as u8 });
         }
         at -= CHIP_NUMBERS;
+        if at < self.scripts.length() {
+            return Some(self.scripts.case(at, rng));
+        }
+        at -= self.scripts.length();
         if at < STATES {
             return Some(state_case(at, rng));
         }

@@ -3,7 +3,7 @@
 use std::process::ExitCode;
 
 use cases::counts::{goals, Counts};
-use cases::{explore, levels, samples, Item, Outcome};
+use cases::{explore, written_out, Item, Outcome};
 use zeradok::Library;
 
 const SEED: u64 = 1;
@@ -17,9 +17,9 @@ fn main() -> ExitCode {
         eprintln!("usage: differential [seed] [random cases]");
         return ExitCode::FAILURE;
     };
-    let failing = [samples::failing::<Library>(), levels::failing::<Library>()].concat();
+    let failing = written_out::<Library>();
     if !failing.is_empty() {
-        println!("samples and levels that fail: {failing:?}");
+        println!("cases written out that fail: {failing:?}");
     }
     let mut counts = Counts::default();
     let note = |item: &Item, outcome: &Outcome, buffer: &[u8]| counts.note(item, outcome, buffer);

@@ -1,4 +1,4 @@
-//! The eight calls of 01 and what they give back.
+//! The calls of 01 and 02 and what they give back.
 
 /// A chip's state; `bp` is BP2 BP1 BP0 as a number, `left` the microseconds of BUSY left.
 #[repr(C)]
@@ -31,12 +31,24 @@ pub struct Planned {
     pub microseconds: u32,
 }
 
+/// A script run; `offset` is that of the first bad record's mark, where the number is about one.
 #[derive(Clone, Copy, Debug, PartialEq, Eq)]
 pub struct Ran {
     pub number: u32,
     pub state: State,
     pub frames: u32,
     pub microseconds: u64,
+    pub offset: usize,
+}
+
+/// A script looked through; `output` is the sum of its frames' lengths.
+#[derive(Clone, Copy, Debug, Default, PartialEq, Eq)]
+pub struct Surveyed {
+    pub number: u32,
+    pub frames: u32,
+    pub microseconds: u64,
+    pub offset: usize,
+    pub output: usize,
 }
 
 /// One record of a script; `kind` is one of the constants of [`kind`].
@@ -58,7 +70,7 @@ pub mod kind {
     pub const END: u32 = 3;
 }
 
-/// Somebody who answers the eight calls: this model, a wrong copy of it, or the library.
+/// Somebody who answers the nine calls: this model, a wrong copy of it, or the library.
 pub trait Calls {
     fn new_chip(chip: u8) -> Answer;
     fn power_up(state: State) -> Answer;
@@ -87,6 +99,7 @@ pub trait Calls {
         buffer: &mut [u8],
     ) -> Planned;
     fn run(state: State, wp_high: bool, array: &mut [u8], script: &[u8], output: &mut [u8]) -> Ran;
+    fn survey(script: &[u8]) -> Surveyed;
     fn read(script: &[u8], offset: usize) -> Record;
 }
 
@@ -107,7 +120,7 @@ impl Planned {
 }
 
 impl Ran {
-    pub(crate) fn refused(number: u32, state: State) -> Self {
-        Self { number, state, frames: 0, microseconds: 0 }
+    pub(crate) fn refused(number: u32, state: State, offset: usize) -> Self {
+        Self { number, state, frames: 0, microseconds: 0, offset }
     }
 }

@@ -54,10 +54,36 @@ pub enum Fault {
     LockNotRestored,
     /// A plan looks at BPL and WP before it looks at the wanted bits.
     LockCheckedBeforeBits,
-    /// A script is checked in the order 1, 2, 11, 4, 12.
+    /// A script's output is checked before its records: 4 comes before 11 and 12 to 14.
     OutputCheckedBeforeRecords,
     /// The microseconds waited are summed in 32 bits.
     WaitsWrap,
+
+    // Of a bad record (02, A1).
+    /// A record's frame may be empty.
+    EmptyFrameAccepted,
+    /// A record's frame may have 4,102 bytes.
+    LongerFrameAccepted,
+    /// A frame's length is checked after the rest of its record: 14 where both 13 and 14 hold.
+    LengthCheckedLast,
+    /// One byte left is an unknown mark, 12, unless it is 5A.
+    LastByteUnknownMark,
+    /// A wait with fewer than four bytes is 12.
+    ShortWaitUnknownMark,
+    /// An offset past the end is 12.
+    PastEndUnknownMark,
+    /// The offset is that of the last good record.
+    OffsetOfLastGood,
+    /// The offset of a wrong length is where the length stands, not the mark.
+    OffsetOfLength,
+    /// A bad record's offset is given with 1, too.
+    OffsetWithState,
+    /// A bad record's offset is given with 2, too.
+    OffsetWithArray,
+    /// With 4 comes an offset, the one behind the last record.
+    OffsetWithOutput,
+    /// A survey that is refused counts the records before the bad one.
+    RefusedSurveyCounts,
 }
 
 impl Fault {

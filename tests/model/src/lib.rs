@@ -1,5 +1,4 @@
-//! A second model of the base, in plain Rust, written from the two data sheets and document 01
-//! alone. It is what the library is compared with, and the baseline its speed is measured by.
+//! A second model, in plain Rust, written from the two data sheets and documents 01 and 02 alone. It is what the library is compared with, and the baseline its speed is measured by.
 //!
 //! `Model` is the right model; `Model<{ Fault::… as u8 }>` is a copy that is wrong in one way.
 #![no_std]
@@ -10,25 +9,26 @@ mod effect;
 mod fault;
 mod frame;
 mod plan;
+mod reader;
 mod records;
 mod reply;
 mod script;
 mod state;
 mod words;
 
-pub use calls::{kind, Answer, Calls, Planned, Ran, Record, State};
+pub use calls::{kind, Answer, Calls, Planned, Ran, Record, State, Surveyed};
 pub use chip::{Chip, Kind};
 pub use fault::Fault;
 pub use frame::{Reason, LONGEST_FRAME};
 pub use plan::LONGEST_REGION;
-pub use script::LONGEST_SCRIPT;
+pub use reader::LONGEST_SCRIPT;
 
 use effect::Effect;
 use state::refusal;
 
 const RIGHT: u8 = Fault::None as u8;
 
-/// The eight calls as this model answers them.
+/// The nine calls as this model answers them.
 pub struct Model<const FAULT: u8 = RIGHT>;
 
 impl<const FAULT: u8> Calls for Model<FAULT> {
@@ -103,11 +103,14 @@ impl<const FAULT: u8> Calls for Model<FAULT> {
 
     fn run(state: State, wp_high: bool, array: &mut [u8], script: &[u8], output: &mut [u8]) -> Ran {
         script::run::<FAULT>(state, wp_high, array, script, output)
-            .unwrap_or_else(|number| Ran::refused(number, state))
+    }
+
+    fn survey(script: &[u8]) -> Surveyed {
+        script::survey::<FAULT>(script)
     }
 
     fn read(script: &[u8], offset: usize) -> Record {
-        script::read(script, offset)
+        reader::read::<FAULT>(script, offset)
     }
 }
 

@@ -1,78 +1,78 @@
-//! Scripts (01, "Scripts and plans"): reading a record and running a script.
+//! Looking a script through and running it (01, "Scripts and plans"; 02, A1).
 
-use crate::calls::kind;
+use crate::chip::Chip;
 use crate::fault::Fault;
-use crate::frame::{self, LONGEST_FRAME};
+use crate::frame;
+use crate::reader::{next, Bad, Next, LONGEST_SCRIPT};
 use crate::state::refusal;
-use crate::{Ran, Record, State};
+use crate::{Ran, State, Surveyed};
 
-pub const LONGEST_SCRIPT: usize = 32_768;
-
-/// One well-formed record and what stands after it.
-enum Next<'a> {
-    Frame(&'a [u8], &'a [u8]),
-    Wait(u32, &'a [u8]),
-    End,
-}
-
-/// The record at the front of the script's rest, if it is well formed.
-fn next(rest: &[u8]) -> Option<Next<'_>> {
-    match *rest {
-        [] => Some(Next::End),
-        [0x5A, 0x46, high, low, ref rest @ ..] => {
-            let length = usize::from(u16::from_be_bytes([high, low]));
-            let whole = (1..=LONGEST_FRAME).contains(&length) && length <= rest.len();
-            whole.then(|| {
-                let (frame, rest) = rest.split_at(length);
-                Next::Frame(frame, rest)
-            })
-        }
-        [0x5A, 0x57, a, b, c, d, ref rest @ ..] => {
-            Some(Next::Wait(u32::from_be_bytes([a, b, c, d]), rest))
-        }
-        _ => None,
-    }
-}
-
-pub fn read(script: &[u8], offset: usize) -> Record {
-    let refused =
-        |number| Record { number, kind: kind::REFUSED, next: offset, ..Record::default() };
+/// What all records come to; or what is wrong with the first bad one, and where its mark is.
+pub fn survey<const FAULT: u8>(script: &[u8]) -> Surveyed {
     if script.len() > LONGEST_SCRIPT {
-        return refused(refusal::SCRIPT_LENGTH);
+        return Surveyed { number: refusal::SCRIPT_LENGTH, ..Surveyed::default() };
     }
-    match script.get(offset..).and_then(next) {
-        Some(Next::Frame(frame, rest)) => Record {
-            kind: kind::FRAME,
-            start: script.len() - rest.len() - frame.len(),
-            length: frame.len(),
-            next: script.len() - rest.len(),
-            ..Record::default()
-        },
-        Some(Next::Wait(microseconds, rest)) => Record {
-            kind: kind::WAIT,
-            microseconds,
-            next: script.len() - rest.len(),
-            ..Record::default()
-        },
-        Some(Next::End) => Record { kind: kind::END, next: offset, ..Record::default() },
-        None => refused(refusal::RECORD),
+    let mut surveyed = Surveyed::default();
+    let (mut last, mut rest) = (script, script);
+    loop {
+        let after = match next::<FAULT>(rest) {
+            Ok(Next::Frame(frame, after)) => {
+                surveyed.frames += 1;
+                surveyed.output += frame.len();
+                after
+            }
+            Ok(Next::Wait(microseconds, after)) => {
+                surveyed.microseconds = waited::<FAULT>(surveyed.microseconds, microseconds);
+                after
+            }
+            Ok(Next::End) => return surveyed,
+            Err(bad) => {
+                let behind = match bad {
+                    _ if Fault::OffsetOfLastGood.within(FAULT) => last.len(),
+                    Bad::Length if Fault::OffsetOfLength.within(FAULT) => rest.len() - 2,
+                    _ => rest.len(),
+                };
+                let counts = match Fault::RefusedSurveyCounts.within(FAULT) {
+                    true => surveyed,
+                    false => Surveyed::default(),
+                };
+                return Surveyed { number: bad.number(), offset: script.len() - behind, ..counts };
+            }
+        };
+        (last, rest) = (rest, after);
     }
 }
 
-/// The script's frame bytes, and whether all its records are well formed.
-fn frame_bytes(script: &[u8]) -> (usize, bool) {
-    let mut rest = script;
-    let mut bytes = 0;
-    loop {
-        match next(rest) {
-            Some(Next::Frame(frame, after)) => {
-                bytes += frame.len();
-                rest = after;
-            }
-            Some(Next::Wait(_, after)) => rest = after,
-            Some(Next::End) => return (bytes, true),
-            None => return (bytes, false),
-        }
+/// The chip, or the first refusal that holds: 1, 2, those of the survey, then 4.
+fn accept<const FAULT: u8>(
+    state: &State,
+    array: &[u8],
+    surveyed: &Surveyed,
+    output: &[u8],
+) -> Result<&'static Chip, u32> {
+    let chip = state.sound_chip::<FAULT>().ok_or(refusal::STATE)?;
+    let output_fits = output.len() == surveyed.output;
+    if array.len() != chip.size {
+        Err(refusal::ARRAY_LENGTH)
+    } else if Fault::OutputCheckedBeforeRecords.within(FAULT) && !output_fits {
+        Err(refusal::OUTPUT_LENGTH)
+    } else if surveyed.number != 0 {
+        Err(surveyed.number)
+    } else if !output_fits {
+        Err(refusal::OUTPUT_LENGTH)
+    } else {
+        Ok(chip)
+    }
+}
+
+/// The offset that comes with a run's refusal: 12, 13 and 14 "alone carry an offset" (02, A1).
+fn offset_with<const FAULT: u8>(number: u32, surveyed: &Surveyed, script: &[u8]) -> usize {
+    match number {
+        refusal::UNKNOWN_MARK | refusal::RECORD_LENGTH | refusal::CUT_SHORT => surveyed.offset,
+        refusal::STATE if Fault::OffsetWithState.within(FAULT) => surveyed.offset,
+        refusal::ARRAY_LENGTH if Fault::OffsetWithArray.within(FAULT) => surveyed.offset,
+        refusal::OUTPUT_LENGTH if Fault::OffsetWithOutput.within(FAULT) => script.len(),
+        _ => 0,
     }
 }
 
@@ -82,46 +82,42 @@ pub fn run<const FAULT: u8>(
     array: &mut [u8],
     script: &[u8],
     output: &mut [u8],
-) -> Result<Ran, u32> {
-    let chip = state.sound_chip::<FAULT>().ok_or(refusal::STATE)?;
-    if array.len() != chip.size {
-        return Err(refusal::ARRAY_LENGTH);
-    }
-    if script.len() > LONGEST_SCRIPT {
-        return Err(refusal::SCRIPT_LENGTH);
-    }
-    let (bytes, well_formed) = frame_bytes(script);
-    if Fault::OutputCheckedBeforeRecords.within(FAULT) && output.len() != bytes {
-        return Err(refusal::OUTPUT_LENGTH);
-    }
-    if !well_formed {
-        return Err(refusal::RECORD);
-    }
-    if output.len() != bytes {
-        return Err(refusal::OUTPUT_LENGTH);
-    }
-
-    let mut ran = Ran { number: 0, state, frames: 0, microseconds: 0 };
+) -> Ran {
+    let surveyed = survey::<FAULT>(script);
+    let chip = match accept::<FAULT>(&state, array, &surveyed, output) {
+        Ok(chip) => chip,
+        Err(number) => {
+            let offset = offset_with::<FAULT>(number, &surveyed, script);
+            return Ran::refused(number, state, offset);
+        }
+    };
+    let mut ran = Ran { number: 0, state, frames: 0, microseconds: 0, offset: 0 };
     let mut rest = script;
     let mut output = output;
     loop {
-        match next(rest) {
-            Some(Next::Frame(frame, after)) => {
+        match next::<FAULT>(rest) {
+            Ok(Next::Frame(frame, after)) => {
                 let (here, later) = output.split_at_mut(frame.len());
                 frame::run::<FAULT>(chip, &mut ran.state, wp_high, array, frame, here);
                 ran.frames += 1;
                 output = later;
                 rest = after;
             }
-            Some(Next::Wait(microseconds, after)) => {
+            Ok(Next::Wait(microseconds, after)) => {
                 ran.state = ran.state.after::<FAULT>(chip, microseconds);
-                ran.microseconds += u64::from(microseconds);
-                if Fault::WaitsWrap.within(FAULT) {
-                    ran.microseconds &= u64::from(u32::MAX);
-                }
+                ran.microseconds = waited::<FAULT>(ran.microseconds, microseconds);
                 rest = after;
             }
-            Some(Next::End) | None => return Ok(ran),
+            Ok(Next::End) | Err(_) => return ran,
         }
+    }
+}
+
+fn waited<const FAULT: u8>(so_far: u64, microseconds: u32) -> u64 {
+    let sum = so_far + u64::from(microseconds);
+    if Fault::WaitsWrap.within(FAULT) {
+        sum & u64::from(u32::MAX)
+    } else {
+        sum
     }
 }

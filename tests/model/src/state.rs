@@ -4,7 +4,7 @@ use crate::chip::{Chip, WORD_TIME};
 use crate::fault::Fault;
 use crate::State;
 
-/// Refusal numbers (01, "Refusal numbers, in the order checked").
+/// Refusal numbers (01, "Refusal numbers, in the order checked"; from 12 on 02, A1).
 pub mod refusal {
     pub const STATE: u32 = 1;
     pub const ARRAY_LENGTH: u32 = 2;
@@ -17,7 +17,9 @@ pub mod refusal {
     pub const LOCKED: u32 = 9;
     pub const ROOM: u32 = 10;
     pub const SCRIPT_LENGTH: u32 = 11;
-    pub const RECORD: u32 = 12;
+    pub const UNKNOWN_MARK: u32 = 12;
+    pub const RECORD_LENGTH: u32 = 13;
+    pub const CUT_SHORT: u32 = 14;
 }
 
 impl State {

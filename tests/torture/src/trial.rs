@@ -288,17 +288,9 @@ fn records<C: Calls>(script: &[u8]) -> Result<Vec<Record>, String> {
 }
 
 fn output_length<C: Calls>(script: &[u8]) -> Result<usize, String> {
-    let mut at = 0;
-    let mut length = 0;
-    loop {
-        let record = C::read(script, at);
-        accepted(record.number, "the reader")?;
-        if record.kind == kind::END {
-            return Ok(length);
-        }
-        length += record.length;
-        at = record.next;
-    }
+    let surveyed = C::survey(script);
+    accepted(surveyed.number, "the survey")?;
+    Ok(surveyed.output)
 }
 
 fn accepted(number: u32, what: &str) -> Result<(), String> {

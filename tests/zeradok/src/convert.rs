@@ -49,6 +49,19 @@ impl From<binding::Ran> for model::Ran {
             state: ran.state.into(),
             frames: ran.frames,
             microseconds: ran.microseconds,
+            offset: ran.offset,
+        }
+    }
+}
+
+impl From<binding::Surveyed> for model::Surveyed {
+    fn from(surveyed: binding::Surveyed) -> Self {
+        Self {
+            number: surveyed.number,
+            frames: surveyed.frames,
+            microseconds: surveyed.microseconds,
+            offset: surveyed.offset,
+            output: surveyed.output,
         }
     }
 }

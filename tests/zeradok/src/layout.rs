@@ -2,7 +2,7 @@
 
 use std::mem::{align_of, offset_of, size_of};
 
-use crate::binding::{Answer, Planned, Ran, Record, State};
+use crate::binding::{Answer, Planned, Ran, Record, State, Surveyed};
 
 /// Fails to compile unless the struct has this size and alignment and its fields these offsets.
 macro_rules! layout {
@@ -17,6 +17,7 @@ macro_rules! layout {
 
 layout!(State: 16, 4; chip 0, bp 1, tb 2, bpl 3, wel 4, aai 5, armed 6, power_down 7, left 8, next 12);
 layout!(Answer: 20, 4; number 0, state 4);
-layout!(Ran: 32, 8; number 0, state 4, frames 20, microseconds 24);
+layout!(Ran: 40, 8; number 0, state 4, frames 20, microseconds 24, offset 32);
+layout!(Surveyed: 32, 8; number 0, frames 4, microseconds 8, offset 16, output 24);
 layout!(Planned: 32, 4; number 0, state 4, length 20, frames 24, microseconds 28);
 layout!(Record: 40, 8; number 0, kind 4, start 8, length 16, microseconds 24, next 32);

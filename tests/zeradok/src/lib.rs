@@ -6,7 +6,7 @@ mod binding;
 mod convert;
 mod layout;
 
-use model::{Answer, Calls, Planned, Ran, Record, State};
+use model::{Answer, Calls, Planned, Ran, Record, State, Surveyed};
 
 /// The verified library.
 pub struct Library;
@@ -92,6 +92,10 @@ impl Calls for Library {
 
     fn run(state: State, wp_high: bool, array: &mut [u8], script: &[u8], output: &mut [u8]) -> Ran {
         binding::run(state.into(), wp_high, array, script, output).into()
+    }
+
+    fn survey(script: &[u8]) -> Surveyed {
+        binding::survey(script).into()
     }
 
     fn read(script: &[u8], offset: usize) -> Record {

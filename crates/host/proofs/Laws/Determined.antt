@@ -12,6 +12,9 @@ use Rattle.state.proofs.Laws.Determined.{new-chip-determined, power-up-determin
 use Rattle.frame.specs.Device.{Device}
 use Rattle.frame.specs.Call.{FrameRun, CutRun}
 use Rattle.frame.proofs.Laws.Determined.{run-frame-determined, run-cut-frame-determined}
+use Rattle.script.specs.declared.survey.Surveyed.{Surveyed}
+use Rattle.script.specs.Survey.{surveyOf}
+use Rattle.script.proofs.Laws.Survey.{survey-of-determined}
 use Rattle.run.specs.declared.Ran.{Ran}
 use Rattle.run.specs.Script.{ScriptRun}
 use Rattle.run.proofs.Laws.Script.{run-script-determined}
@@ -40,6 +43,9 @@ pub zeradok-run-determined : (wp : Bool) (script : List ℕ) (d : Device) (outpu
     → ScriptRun wp script d output a after out → ScriptRun wp script d output b after′ out′
     → (a ≡ b) × ((after ≡ after′) × (out ≡ out′))
 zeradok-run-determined = run-script-determined
+
+pub zeradok-survey-determined : (script : List ℕ) (a b : Surveyed) → a ≡ surveyOf script → b ≡ surveyOf script → a ≡ b
+zeradok-survey-determined = survey-of-determined
 
 pub zeradok-read-determined : (script : List ℕ) (offset : ℕ) (a b : Record)
     → ReadAnswered script offset a → ReadAnswered script offset b → a ≡ b

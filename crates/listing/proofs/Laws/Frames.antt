@@ -10,7 +10,7 @@ use Rattle.script.specs.Record.{Record, frame, wait, scriptLength, outputLength
 use Rattle.common.specs.Limits.{longestScript}
 use Rattle.script.specs.Decode.{records, decode, recordsIn, recordsOf}
 use Rattle.script.specs.Survey.{surveyOf}
-use Rattle.script.specs.declared.survey.Survey.{Survey}
+use Rattle.script.specs.declared.survey.Surveyed.{Surveyed}
 use Rattle.script.proofs.Laws.Records.{output-frame, output-wait, script-length-first}
 use Rattle.script.proofs.Laws.Decode.{decoded-length}
 use Rattle.script.proofs.Laws.Answers.{Stands, First, stands-first, FrameTold, EndTold}
@@ -89,7 +89,7 @@ show-start script output text e same room =
       inside = omega arith;
       left = w .list;
       decoded = w .decoded;
-      fills = omega (arith, same, ap (λ (s : Survey). s .output) (w .counts));
+      fills = omega (arith, same, ap (λ (s : Surveyed). s .output) (w .counts));
       lays = rw is (left-start 0 (cutLines (w .list) output) text (omega (arith, lines, w .short, room)));
     }
 

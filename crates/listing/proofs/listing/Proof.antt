@@ -9,14 +9,14 @@ use lib.Seq.{take-at, length-take-le}
 use Rattle.state.specs.Status.{statusOf}
 use Rattle.common.specs.Limits.{longestScript}
 use Rattle.script.specs.Survey.{surveyOf}
-use Rattle.script.specs.declared.survey.Survey.{Survey}
+use Rattle.script.specs.declared.survey.Surveyed.{Surveyed}
 use Rattle.frame.specs.Device.{device}
 use Rattle.run.specs.Script.{ScriptRun}
 use Rattle.script.specs.Decode.{recordsOf}
 use Rattle.common.proofs.Laws.Buffer.{Left, left-start, left-fits, left-turn, left-last}
 use Rattle.text.specs.Text.{hex, line}
 use Rattle.listing.specs.Listing.{longestListing, high, new05pa, listing, cutLines}
-use Rattle.listing.proofs.Laws.Listing.{refusal-length, number-small, output-small, listing-fits, listing-refused, ran-number, ran-length, ran-listing}
+use Rattle.listing.proofs.Laws.Listing.{number-small, offset-small, output-small, listing-fits, listing-refused, ran-number, ran-offset, ran-length, ran-listing}
 use borrow.Author.Needs.{needs}
 use Rattle.listing.proofs.listing.Statement.{statement}
 use Rattle.listing.proofs.listing.Tie as tie
@@ -32,7 +32,7 @@ abbrev Room : tie.After-output → List ℕ
 Room c = take (c .before .before .before .before .before .survey-of .result .output) (c .before .before .before .output-room .result)
 
 lent : (c : tie.After-output) → length (Room c) ≡ surveyOf (c .before .before .before .before .before .before .before .args .script .now) .output
-lent c = length-take-le _ _ (inside (c .before)) ∙ ap (λ (s : Survey). s .output) (c .before .before .before .before .before .survey-of .ensures)
+lent c = length-take-le _ _ (inside (c .before)) ∙ ap (λ (s : Surveyed). s .output) (c .before .before .before .before .before .survey-of .ensures)
 
 -- it holds the outputs afterwards
 abbrev Output : tie.After-run-script → List ℕ
@@ -43,7 +43,7 @@ ran : (c : tie.After-run-script)
 ran c = rw (c .before .before .before .before .before .erased-array .ensures, c .before .before .before .new-chip .ensures) at (c .run-script .ensures)
 
 long : (c : tie.Else1) → length (Output (c .before .before .before .before)) ≡ c .before .before .before .before .before .before .before .before .before .before .survey-of .result .output
-long c = ran-length (lent (c .before .before .before .before .before)) (ran (c .before .before .before .before)) (c .if1 .left) ∙ sym (ap (λ (s : Survey). s .output) (c .before .before .before .before .before .before .before .before .before .before .survey-of .ensures))
+long c = ran-length (lent (c .before .before .before .before .before)) (ran (c .before .before .before .before)) (c .if1 .left) ∙ sym (ap (λ (s : Surveyed). s .output) (c .before .before .before .before .before .before .before .before .before .before .survey-of .ensures))
 
 cut : (c : tie.Else1) → let n = c .before .before .before .before .before .before .before .before .before .before .survey-of .result .output in take n (Output (c .before .before .before .before) ++ drop n (c .before .before .before .before .before .before .before .before .output-room .result)) ≡ Output (c .before .before .before .before)
 cut c = take-at _ _ _ (long c)
@@ -89,15 +89,20 @@ slice-aggregate-run-script-2 c = sym (length-take-le _ _ (inside (c .before)))
 run-script-requires : tie.Need-run-script-requires
 run-script-requires c κs = search needs
 
-put-decimal-line-requires : tie.Need-put-decimal-line-requires
-put-decimal-line-requires c κs =
-    let e = ran-number (lent (c .before .before .before .before .before .before)) (ran (c .before .before .before .before .before)) in
-    (rw e (number-small (c .before .before .before .before .before .before .before .before .before .before .before .before .before .args .script .now)), omega (arith, refusal-length (c .before .before .before .before .before .run-script .result .number), c .put-decimal-line-arg .given .0 .1))
+put-refusal-requires : tie.Need-put-refusal-requires
+put-refusal-requires c κs =
+    let script = c .before .before .before .before .before .before .before .before .before .before .before .before .before .args .script .now in
+    let r = ran (c .before .before .before .before .before) in
+    let l = lent (c .before .before .before .before .before .before) in
+    (rw (ran-number l r) (number-small script), (rw (ran-offset l r) (offset-small script), omega (arith, c .put-refusal-arg .given .0 .1)))
 
 returns : tie.Need-returns
 returns c =
-    let e = ran-number (lent (c .before .before .before .before .before .before .before)) (ran (c .before .before .before .before .before .before)) in
-    rw (listing-refused (c .before .before .before .before .before .before .before .before .before .before .before .before .before .before .args .script .now) (λ z. c .before .before .if1 .taken (e ∙ z)), ← e) (c .put-decimal-line .ensures)
+    let script = c .before .before .before .before .before .before .before .before .before .before .before .before .before .before .args .script .now in
+    let r = ran (c .before .before .before .before .before .before) in
+    let l = lent (c .before .before .before .before .before .before .before) in
+    let e = ran-number l r in
+    rw (listing-refused script (λ z. c .before .before .if1 .taken (e ∙ z)), ← e, ← ran-offset l r) (c .put-refusal .ensures)
 
 array-share-prefix-output : tie.Need-array-share-prefix-output
 array-share-prefix-output c =
@@ -137,7 +142,7 @@ listing-spec =
     array-borrow-prefix-output
     slice-aggregate-run-script-2
     run-script-requires
-    put-decimal-line-requires
+    put-refusal-requires
     returns
     array-share-prefix-output
     slice-aggregate-put-frame-lines

@@ -29,7 +29,7 @@ use Rattle.run.specs.Run.{run, outputs}
 use Rattle.run.specs.Script.{scriptNumber, ScriptAccepted, ScriptRun}
 use Rattle.run.proofs.Laws.Accepted.{accepted-number, encoded-accepted}
 use Rattle.run.proofs.Laws.Run.{Ready, outputs-length, frame-accepted-among}
-use Rattle.run.proofs.Laws.Script.{ranBy}
+use Rattle.run.proofs.Laws.Script.{ranOf}
 use Rattle.run.proofs.Laws.Prefix.{RanRecords, script-ran-records, records-before-ran, ReadTo, read-goes-on, read-frame, read-wait, RunTo, run-to-start, run-to-end}
 use Rattle.plan.specs.declared.Planned.{Planned}
 use Rattle.plan.specs.Plan.{planRecords}
@@ -116,7 +116,7 @@ module _ (wp : Bool) (chip : Device) (start : ℕ) (wanted buffer after : List �
   -- its first records, however many, are run by the call on their bytes alone
   pub plan-front-ran : (before others : List Record) → planRecords (chip .state) (chip .array) start wanted ≡ before ++ others
       → (output : List ℕ) → length output ≡ outputLength before
-      → ScriptRun wp (encode before) chip output (ranBy 0 (run wp before chip .state) (framesIn before) (microsecondsIn before)) (run wp before chip) (outputs wp before chip)
+      → ScriptRun wp (encode before) chip output (ranOf (run wp before chip .state) (framesIn before) (microsecondsIn before)) (run wp before chip) (outputs wp before chip)
   plan-front-ran before others e output long =
       let whole = plan-script-accepted (outputs wp plan chip) (outputs-length wp plan chip) in
       let parts : script ≡ encode before ++ encode others = script-is ∙ ap encode e ∙ encode-append before others in

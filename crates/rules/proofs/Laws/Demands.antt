@@ -17,10 +17,11 @@ use Rattle.frame.specs.Call.{frameNumber, frameDevice, frameOutput, cutNumber, 
 use Rattle.frame.proofs.Laws.Accepted.{number-accepted, cut-number-accepted}
 use Rattle.frame.proofs.Laws.Determined.{run-frame-determined, run-cut-frame-determined}
 use Rattle.script.specs.Record.{encode, framesIn, microsecondsIn}
+use Rattle.script.specs.Survey.{surveyOf}
 use Rattle.script.specs.Reader.{recordAt, framePart}
 use Rattle.script.proofs.Laws.Values.{record-at-answered}
 use Rattle.run.specs.declared.Ran.{Ran}
-use Rattle.run.specs.Script.{scriptNumber, scriptDevice, scriptOutput, scriptCount, ScriptRun}
+use Rattle.run.specs.Script.{scriptNumber, scriptDevice, scriptOutput, scriptCount, scriptOffset, ScriptRun}
 use Rattle.run.proofs.Laws.Script.{run-script-determined}
 use Rattle.plan.specs.declared.Planned.{Planned}
 use Rattle.plan.specs.Refusals.{planRefusal}
@@ -55,8 +56,9 @@ use Rattle.rules.proofs.Laws.Refusals.{
   cut-refusals,
   plan-refusals,
   script-refusals,
-  reader-refusals,
 }
+use Rattle.rules.proofs.Laws.BadRecords.{reader-refusals}
+use Rattle.rules.proofs.Laws.Survey.{survey-rules}
 use Rattle.rules.proofs.Laws.Play.{play-rules}
 use Rattle.rules.proofs.Laws.Driver.{no-cut-hurts}
 
@@ -100,9 +102,10 @@ script-answers wp script d output =
       state = scriptDevice wp script d output .state;
       frames = scriptCount framesIn wp script d output;
       microseconds = scriptCount microsecondsIn wp script d output;
+      offset = scriptOffset wp script d output;
     } in
     let made : ScriptRun wp script d output ran (scriptDevice wp script d output) (scriptOutput wp script d output) =
-    record { number-is = refl; state-is = refl; frames-are = refl; microseconds-are = refl; device-is = refl; output-is = refl } in
+    record { number-is = refl; state-is = refl; frames-are = refl; microseconds-are = refl; offset-is = refl; device-is = refl; output-is = refl } in
     record {
       answer = (ran, (scriptDevice wp script d output, scriptOutput wp script d output));
       given = made;
@@ -151,6 +154,7 @@ answers = record {
   run-cut-frame = cut-answers;
   run-script = script-answers;
   plan-update = plan-answers;
+  survey = λ script. named (surveyOf script);
   read = read-answers;
   read-part = λ script offset. named (framePart script offset);
 }
@@ -164,6 +168,7 @@ refusals = record {
   run-cut-frame = λ wp f mask d output. cut-refusals wp f d output mask;
   run-script = λ wp script d output ran after shown bytes. script-refusals wp script d output bytes ran after shown;
   plan-update = plan-refusals;
+  survey = survey-rules;
   read = reader-refusals;
 }
 

@@ -1,37 +1,42 @@
 -- What program `play` prints: record by record as each call shows it, or why the script is refused.
 -- Assumes nothing.
 use mathlib.Core.Path.{_≡_, refl, sym, ap, _∙_}
-use mathlib.Core.Bool.{true, cond, not}
+use mathlib.Core.Bool.{true, false≢true, cond, not}
 use mathlib.Core.List.{List, [], _∷_, _++_, append-assoc}
-use Prim.Native.Nat.{ℕ, _<_}
+use mathlib.Core.Logic.{_⊎_, inl, inr, ⊎-elim}
+use Prim.Native.Nat.{ℕ, _≤_, _<_}
 use native.Mathlib.Omega.{arith}
 use lib.Dec.{eqb}
 use lib.ListN.{length, replicate, length-replicate}
-use borrow.Author.Tests.{eqb-true}
+use borrow.Author.Tests.{eqb-true, eq-eqb}
 use Rattle.common.specs.Bits.{Bytes}
+use Rattle.common.specs.Limits.{longestScript}
 use Rattle.common.specs.Refusals.{wrongOutput}
 use Rattle.common.proofs.Laws.Choice.{cases}
+use Rattle.common.proofs.Laws.Lists.{split}
 use Rattle.state.specs.Status.{statusOf}
 use Rattle.state.proofs.Laws.Soundness.{of-sound}
 use Rattle.script.specs.Record.{Record, frame, wait, AllFit}
-use Rattle.script.specs.Decode.{Decoded, records, badAt, decode, recordsIn, recordsOf}
-use Rattle.script.specs.Survey.{surveyed, surveyOf}
+use Rattle.script.specs.Decode.{recordsIn, recordsOf}
+use Rattle.script.specs.Survey.{surveyOf}
 use Rattle.script.proofs.Laws.Decode.{encode-decode}
-use Rattle.script.proofs.Laws.Survey.{survey-short, survey-whole}
+use Rattle.script.proofs.Laws.Survey.{survey-whole}
 use Rattle.frame.specs.Device.{Device}
 use Rattle.run.specs.Run.{step, outputOf, run}
-use Rattle.run.specs.Script.{scriptNumber}
+use Rattle.run.specs.Script.{scriptNumber, carriesOffset, scriptOffset}
 use Rattle.run.proofs.Laws.Run.{run-none, run-first, Ready}
-use Rattle.run.proofs.Laws.Accepted.{number-surveyed, number-by-survey}
-use Rattle.text.specs.Text.{hex, decimal}
-use Rattle.text.proofs.Laws.Text.{hex-none, hex-first, digits, digit-low, decimal-two}
+use Rattle.run.proofs.Laws.Accepted.{number-surveyed, number-by-survey, carried-surveyed, offset-surveyed}
+use Rattle.text.specs.Text.{hex, decimalEnd, decimal}
+use Rattle.text.proofs.Laws.Text.{hex-none, hex-first, digits, digit-low}
+use Rattle.text.proofs.Laws.Decimal.{decimal-two, decimal-zero, decimal-digits, decimal-value, decimal-no-leading-zero, decimals-line-one, decimals-line-two}
 use Rattle.listing.specs.Listing.{new05pa, frameLines, statusLine, listing}
 use Rattle.listing.proofs.Laws.Frames.{lines-none, lines-frame, lines-wait}
-use Rattle.listing.proofs.Laws.Listing.{fault-12, number-cases, listing-refused, listing-run, erased-is, new-ready, listing-empty, listing-long}
-use Rattle.rules.specs.Conditions.{BadScript}
-use Rattle.rules.specs.Play.{erased05PA, inHex, Printed, frame-line, no-line, status-line, Listed, PlayRules}
+use Rattle.listing.proofs.Laws.Listing.{number-cases, listing-refused, listing-run, erased-is, new-ready, listing-empty, listing-long}
+use Rattle.rules.specs.BadRecords.{FirstBad}
+use Rattle.rules.specs.Play.{erased05PA, inHex, InDecimal, threeFields, Printed, frame-line, no-line, status-line, Listed, PlayRules}
 use Rattle.rules.proofs.Laws.Power.{new-chips}
 use Rattle.rules.proofs.Laws.Running.{by-turns}
+use Rattle.rules.proofs.Laws.Survey.{means-carried, survey-rules}
 
 -- ---- the lines
 
@@ -72,17 +77,23 @@ ready = rw chip-is at new-ready
 -- ---- the numbers
 
 eleven : decimal 11 ≡ 0x31 ∷ 0x31 ∷ []
-eleven = decimal-two 11 (omega arith) ∙ rw (digit-low 1 (omega arith)) refl
+eleven = decimal-two 11 (omega arith) (omega arith) ∙ rw (digit-low 1 (omega arith)) refl
 
-twelve : decimal 12 ≡ 0x31 ∷ 0x32 ∷ []
-twelve = decimal-two 12 (omega arith) ∙ rw (digit-low 1 (omega arith), digit-low 2 (omega arith)) refl
+in-decimal : (number : ℕ) → number < decimalEnd → InDecimal number (decimal number)
+in-decimal number small = record {
+  digits = decimal-digits number small;
+  value = decimal-value number small;
+  no-zero-first = λ more.
+      ⊎-elim (λ some. decimal-no-leading-zero number some small)
+      (λ none. let zero-is : number ≡ 0 = omega (arith, none) in absurd (omega (arith, more, ap (λ (n : ℕ). length (decimal n)) zero-is, ap length decimal-zero))) (split 0 number);
+}
 
 module _ (script : List ℕ) where
   -- but for the output's length the number is the survey's
   by-survey : (output : List ℕ) (number : ℕ) → (number ≡ 4 → ⊥) → scriptNumber true script erased05PA output ≡ number → surveyOf script .number ≡ number
   by-survey output number other e =
       by-number (surveyOf script .number)
-      (sym (number-surveyed true script erased05PA output (of-sound (erased05PA .state) (ready .sound)) (ready .sized)) ∙ e)
+      (sym (number-surveyed true script erased05PA output ∙ rw (of-sound (erased05PA .state) (ready .sound), eq-eqb _ _ (ready .sized)) refl) ∙ e)
     where
       by-number : (n : ℕ) → cond (not (eqb n 0)) n (cond (not (eqb (length output) (surveyOf script .output))) wrongOutput 0) ≡ number → n ≡ number
       by-number n =
@@ -91,16 +102,28 @@ module _ (script : List ℕ) where
           (cases (eqb (length output) (surveyOf script .output)) (λ u. rw u (λ z. eqb-true n 0 t ∙ z)) (λ u. rw u (λ z. absurd (other (sym z))))))
           (λ t. rw t (λ z. z))
 
-  refused : (number : ℕ) → 0 < number → surveyOf script .number ≡ number → listing script ≡ 0x52 ∷ 0x20 ∷ (decimal number ++ (0x0a ∷ []))
-  refused number some e = rw e at (listing-refused script (λ z. omega (arith, z, e, some)))
+  refused-11 : surveyOf script .number ≡ 11 → listing script ≡ 0x52 ∷ 0x20 ∷ 0x31 ∷ 0x31 ∷ 0x0a ∷ []
+  refused-11 e = listing-refused script (λ z. omega (arith, z, e)) ∙ rw e (decimals-line-one 0x52 11 ∙ rw eleven refl)
 
-  refused-12 : surveyOf script .number ≡ 12 → listing script ≡ 0x52 ∷ 0x20 ∷ 0x31 ∷ 0x32 ∷ 0x0a ∷ []
-  refused-12 e = rw twelve at (refused 12 (omega arith) e)
+  -- a bad record's number and offset
+  bad-line : carriesOffset (surveyOf script .number) ≡ true → listing script ≡ threeFields (surveyOf script .number) (surveyOf script .offset)
+  bad-line t =
+      listing-refused script (λ z. false≢true (rw z at t)) ∙ rw t (decimals-line-two 0x52 (surveyOf script .number) (surveyOf script .offset))
+
+  refused-bad : (number : ℕ) (output : List ℕ) → (number ≡ 12) ⊎ (number ≡ 13) ⊎ (number ≡ 14) → scriptNumber true script erased05PA output ≡ number
+      → listing script ≡ threeFields number (scriptOffset true script erased05PA output)
+  refused-bad number output which e =
+      let t : carriesOffset (scriptNumber true script erased05PA output) ≡ true = rw e (means-carried number .only-when which) in
+      let same = carried-surveyed true script erased05PA output t in
+      let place : scriptOffset true script erased05PA output ≡ surveyOf script .offset = offset-surveyed true script erased05PA output ∙ rw t refl in
+      rw (sym e ∙ same, place) (bad-line (rw same at t))
 
   module _ (bytes : Bytes script) where
-    bad-12 : BadScript script → (d : Decoded) → decode script ≡ d → surveyed d .number ≡ 12
-    bad-12 bad (records rs) e = let read = encode-decode script rs bytes e in absurd (bad rs (read .1) (sym (read .0)))
-    bad-12 bad (badAt fault offset) e = fault-12 fault
+    first-line : (number offset : ℕ) → length script ≤ longestScript → (number ≡ 12) ⊎ (number ≡ 13) ⊎ (number ≡ 14) → FirstBad script offset number
+        → listing script ≡ threeFields number offset
+    first-line number offset short which first =
+        let told = survey-rules script bytes .first-told number offset short which first in
+        rw (sym (told .0), sym (told .1)) (bad-line (rw (told .0) (means-carried number .only-when which)))
 
     listed : surveyOf script .number ≡ 0 → Listed script
     listed e =
@@ -117,13 +140,15 @@ module _ (script : List ℕ) where
     play-rules = record {
       digits = digits;
       runs = λ output e. listed (by-survey output 0 (λ z. omega (arith, z)) e);
-      refused-11 = λ output e. rw eleven at (refused 11 (omega arith) (by-survey output 11 (λ z. omega (arith, z)) e));
-      refused-12 = λ output e. refused-12 (by-survey output 12 (λ z. omega (arith, z)) e);
+      refused-11 = λ output e. refused-11 (by-survey output 11 (λ z. omega (arith, z)) e);
+      refused-bad = refused-bad;
+      in-decimal = in-decimal;
       room = replicate (surveyOf script .output) 0;
       in-that-room =
           rw (number-by-survey true script erased05PA (replicate (surveyOf script .output) 0) (of-sound (erased05PA .state) (ready .sound)) (ready .sized)
-          (length-replicate {A = ℕ} (surveyOf script .output) 0)) (number-cases script);
+          (length-replicate {A = ℕ} (surveyOf script .output) 0))
+          (⊎-elim inl (λ other. inr (⊎-elim inl (λ t. inr (means-carried (surveyOf script .number) .when t)) other)) (number-cases script));
       too-long = listing-long script;
-      bad-record = λ short bad. refused-12 (rw (survey-short script short) (bad-12 bad (decode script) refl));
+      bad-record = first-line;
       empty = λ e. rw e listing-empty;
     }

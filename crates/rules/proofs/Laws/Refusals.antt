@@ -1,21 +1,19 @@
 -- The refusals of each call: its tests mean the table's words, in the same order; and what a refusal leaves.
 -- Assumes nothing.
 use mathlib.Core.Path.{_≡_, refl, ap, _∙_}
-use mathlib.Core.Bool.{Bool, true, false, cond, _||_, not}
+use mathlib.Core.Bool.{Bool, true, false, _||_, not}
 use mathlib.Core.List.{List, [], _∷_}
-use mathlib.Core.Logic.{⊎-elim}
-use Prim.Native.Nat.{ℕ, _≤_, _<_}
+use Prim.Native.Nat.{ℕ, _<_}
 use native.Mathlib.Omega.{arith}
 use lib.Dec.{ltb, eqb}
 use lib.ListN.{length}
-use borrow.Author.Tests.{ltb-true, ltb-false, not-false}
+use borrow.Author.Tests.{not-false}
 use Rattle.common.specs.Bits.{Bytes}
-use Rattle.common.specs.Limits.{longestFrame, longestScript}
-use Rattle.common.specs.Refusals.{stateNotSound, wrongArray, wrongOutput, scriptTooLong, unknownMark, firstOf, Exactly}
+use Rattle.common.specs.Limits.{longestFrame}
+use Rattle.common.specs.Refusals.{stateNotSound, Exactly}
 use Rattle.common.proofs.Laws.Choice.{cases}
 use Rattle.state.specs.declared.State.{State}
 use Rattle.state.specs.declared.Answer.{Answer}
-use Rattle.state.specs.State.{dataOf}
 use Rattle.state.specs.Soundness.{isSound}
 use Rattle.state.specs.Power.{powerUp}
 use Rattle.state.specs.Time.{passTime}
@@ -27,14 +25,11 @@ use Rattle.frame.specs.Ran.{maskWanted}
 use Rattle.frame.specs.Call.{frameRefusals, FrameRun, cutRefusals, CutRun}
 use Rattle.frame.proofs.Laws.Accepted.{frame-exactly, cut-exactly}
 use Rattle.frame.proofs.Laws.Call.{frame-refusal-keeps, cut-refusal-keeps}
-use Rattle.script.specs.Record.{outputLength, encode}
-use Rattle.script.specs.Decode.{isUnknownMark, isWrongLength, isCutShort, isBad, decode, recordsOf}
-use Rattle.script.specs.Answers.{numberOf}
-use Rattle.script.specs.Reader.{recordAt}
-use Rattle.script.proofs.Laws.Reader.{record-at-long, record-at-past, record-at-inside}
+use Rattle.script.specs.Record.{encode}
+use Rattle.script.specs.Survey.{surveyOf}
 use Rattle.run.specs.declared.Ran.{Ran}
-use Rattle.run.specs.Script.{scriptRefusals, ScriptRun}
-use Rattle.run.proofs.Laws.Accepted.{script-exactly}
+use Rattle.run.specs.Script.{scriptRefusals, scriptNumber, scriptOffset, ScriptRun}
+use Rattle.run.proofs.Laws.Accepted.{script-exactly, carried-surveyed, offset-surveyed, offset-only}
 use Rattle.run.proofs.Laws.Script.{script-refused, run-script-determined}
 use Rattle.plan.specs.declared.Planned.{Planned}
 use Rattle.plan.specs.Plan.{planRecords}
@@ -43,21 +38,21 @@ use Rattle.plan.specs.Update.{PlanUpdated}
 use Rattle.plan.proofs.Laws.Refusals.{refused-exactly}
 use Rattle.plan.proofs.Laws.Update.{refused-untouched}
 use Rattle.rules.specs.Conditions.{NotSound, WrongFrame, WrongOutput}
+use Rattle.rules.specs.Numbered.{_when_, Numbered}
+use Rattle.rules.specs.BadRecords.{Located}
 use Rattle.rules.specs.Refusals.{
-  _when_,
-  Numbered,
   PowerUpRefusals,
   TimeRefusals,
   FrameRefusals,
   CutRefusals,
   PlanRefusals,
   ScriptRefusals,
-  ReaderRefusals,
 }
 use Rattle.rules.proofs.Laws.Tests.{means-equal, means-less, means-not, means-or}
 use Rattle.rules.proofs.Laws.Numbered.{row, numbered, first-exactly}
 use Rattle.rules.proofs.Laws.Conditions.{means-not-sound, means-wrong-array, means-wrong-region, means-not-at-rest, means-rises, means-locked}
-use Rattle.rules.proofs.Laws.ScriptConditions.{isBadScript, means-bad-script, means-wrong-sum, numberThere, number-there, means-bad-record}
+use Rattle.rules.proofs.Laws.BadRecords.{means-bad-mark, means-bad-length, means-bad-cut, means-wrong-sum}
+use Rattle.rules.proofs.Laws.Survey.{means-carried, carries-none, survey-rules}
 
 -- ---- power-up and time
 
@@ -69,7 +64,7 @@ module _ (s : State) where
   state-number : (a : Answer) → (isSound s ≡ true → a .number ≡ 0) → (isSound s ≡ false → a .number ≡ 1) → Numbered (a .number) (1 when NotSound s ∷ [])
   state-number a granted refused =
       numbered stateRows (1 when NotSound s ∷ []) (a .number) refl (cases (isSound s) (λ t. granted t ∙ rw t refl) (λ t. refused t ∙ rw t refl))
-      record { same = refl; once = refl; means = means-not-sound s; others = λ _. tt }
+      (row (means-not-sound s) (λ _. refl) (λ _. tt))
 
   state-kept : (a : Answer) → (isSound s ≡ true → a .number ≡ 0) → (isSound s ≡ false → a .state ≡ s) → 0 < a .number → a .state ≡ s
   state-kept a granted refused some = cases (isSound s) (λ t. absurd (omega (arith, some, granted t))) refused
@@ -112,9 +107,9 @@ module _ (wp : Bool) (f : List ℕ) (d : Device) (output : List ℕ) where
       → FrameRefusals wp f d output number after outputAfter run
   frame-refusals number after outputAfter run = record {
     numbers = numbered (frameRefusals wp f d output) _ number refl (run .number-is ∙ first-exactly (frameRefusals wp f d output) _ (frame-exactly wp f d output))
-        (row (means-not-sound s) refl
-        (λ sound. row (means-wrong-array s (not-false (isSound s) sound) (d .array)) refl
-        (λ _. row means-wrong-frame refl (λ _. row means-wrong-output refl (λ _. tt)))));
+        (row (means-not-sound s) (λ _. refl)
+        (λ sound. row (means-wrong-array s (not-false (isSound s) sound) (d .array)) (λ _. refl)
+        (λ _. row means-wrong-frame (λ _. refl) (λ _. row means-wrong-output (λ _. refl) (λ _. tt)))));
     refusal-keeps = frame-refusal-keeps wp f d output run;
   }
 
@@ -122,11 +117,11 @@ module _ (wp : Bool) (f : List ℕ) (d : Device) (output : List ℕ) where
       → CutRefusals wp f mask d output number after outputAfter run
   cut-refusals mask number after outputAfter run = record {
     numbers = numbered (cutRefusals wp f mask d output) _ number refl (run .number-is ∙ first-exactly (cutRefusals wp f mask d output) _ (cut-exactly wp f d output mask))
-        (row (means-not-sound s) refl
-        (λ sound. row (means-wrong-array s (not-false (isSound s) sound) (d .array)) refl
-        (λ _. row means-wrong-frame refl
-        (λ _. row means-wrong-output refl
-        (λ _. row (means-not (eqb (length mask) (maskWanted wp f d)) (means-equal (length mask) (maskWanted wp f d))) refl (λ _. tt))))));
+        (row (means-not-sound s) (λ _. refl)
+        (λ sound. row (means-wrong-array s (not-false (isSound s) sound) (d .array)) (λ _. refl)
+        (λ _. row means-wrong-frame (λ _. refl)
+        (λ _. row means-wrong-output (λ _. refl)
+        (λ _. row (means-not (eqb (length mask) (maskWanted wp f d)) (means-equal (length mask) (maskWanted wp f d))) (λ _. refl) (λ _. tt))))));
     refusal-keeps = cut-refusal-keeps wp f d output mask run;
   }
 
@@ -139,73 +134,44 @@ module _ (s : State) (wp : Bool) (array : List ℕ) (start : ℕ) (wanted buffer
   pub plan-refusals : (run : PlanUpdated s wp array start wanted buffer after planned) → PlanRefusals s wp array start wanted buffer after planned bytes run
   plan-refusals run = record {
     numbers = numbered planRows _ (planned .number) refl (run .number ∙ first-exactly planRows _ (refused-exactly s array start wanted wp (length buffer)))
-        (row (means-not-sound s) refl
-        (λ sound. row (means-wrong-array s (not-false (isSound s) sound) array) refl
-        (λ _. row (means-wrong-region s (not-false (isSound s) sound) start wanted) refl
-        (λ _. row (means-not-at-rest s) refl
-        (λ _. row (means-rises array start wanted bytes) refl
-        (λ _. row (means-locked array start wanted s wp) refl
-        (λ _. row (means-less (length buffer) (length (encode (planRecords s array start wanted)))) refl (λ _. tt))))))));
+        (row (means-not-sound s) (λ _. refl)
+        (λ sound. row (means-wrong-array s (not-false (isSound s) sound) array) (λ _. refl)
+        (λ _. row (means-wrong-region s (not-false (isSound s) sound) start wanted) (λ _. refl)
+        (λ _. row (means-not-at-rest s) (λ _. refl)
+        (λ _. row (means-rises array start wanted bytes) (λ _. refl)
+        (λ _. row (means-locked array start wanted s wp) (λ _. refl)
+        (λ _. row (means-less (length buffer) (length (encode (planRecords s array start wanted)))) (λ _. refl) (λ _. tt))))))));
     refusal-keeps = refused-untouched s wp array start wanted buffer after planned run;
   }
 
 -- ---- a script
 
 module _ (wp : Bool) (script : List ℕ) (d : Device) (output : List ℕ) (bytes : Bytes script) where
-  -- the three faults have one number
-  abbrev scriptRows : List (ℕ × Bool)
-  scriptRows =
-      (stateNotSound, not (isSound (d .state)))
-      ∷ (wrongArray, not (eqb (length (d .array)) (dataOf (d .state) .size)))
-      ∷ (scriptTooLong, ltb longestScript (length script))
-      ∷ (unknownMark, isBadScript (decode script))
-      ∷ (wrongOutput, not (eqb (length output) (outputLength (recordsOf script))))
-      ∷ []
-
-  one-number : (a b c : Bool) (n m : ℕ) → cond a n (cond b n (cond c n m)) ≡ cond (a || b || c) n m
-  one-number true b c n m = refl
-  one-number false true c n m = refl
-  one-number false false c n m = refl
-
-  script-first : firstOf (scriptRefusals wp script d output) ≡ firstOf scriptRows
-  script-first = rw (one-number (isBad isUnknownMark (decode script)) (isBad isWrongLength (decode script)) (isBad isCutShort (decode script)) 12) refl
+  -- the offset is the survey's, where the number is
+  located : Located script (scriptNumber wp script d output) (scriptOffset wp script d output)
+  located = record {
+    of-the-first = λ e.
+        let t = means-carried (scriptNumber wp script d output) .only-when e in
+        let number-is = carried-surveyed wp script d output t in
+        let offset-is : scriptOffset wp script d output ≡ surveyOf script .offset = offset-surveyed wp script d output ∙ rw t refl in
+        rw (number-is, offset-is) (survey-rules script bytes .located .of-the-first (rw number-is at e));
+    else-none = λ a b c. offset-only wp script d output (carries-none (scriptNumber wp script d output) a b c);
+  }
 
   pub script-refusals : (ran : Ran) (after : Device) (outputAfter : List ℕ) (run : ScriptRun wp script d output ran after outputAfter)
       → ScriptRefusals wp script d output ran after outputAfter bytes run
   script-refusals ran after outputAfter run = record {
-    numbers = numbered scriptRows _ (ran .number) refl
-        (run .number-is ∙ first-exactly (scriptRefusals wp script d output) _ (script-exactly wp script d output) ∙ script-first)
-        (row (means-not-sound (d .state)) refl
-        (λ sound. row (means-wrong-array (d .state) (not-false (isSound (d .state)) sound) (d .array)) refl
-        (λ _. row (means-less 32768 (length script)) refl
-        (λ _. row (means-bad-script script bytes) refl (λ good. row (means-wrong-sum script bytes output good) refl (λ _. tt))))));
-    refusal-keeps = λ some. refused some;
-  }
-    where
-      refused : 0 < ran .number
-          → (ran ≡ record { number = ran .number; state = d .state; frames = 0; microseconds = 0 }) × ((after ≡ d) × (outputAfter ≡ output))
-      refused some =
-          let same = run-script-determined wp script d output _ _ _ _ _ _ run (script-refused wp script d output (λ z. omega (arith, run .number-is, z, some))) in
-          (same .0 ∙ rw (run .number-is) refl, same .1)
-
--- ---- the reader
-
-module _ (script : List ℕ) (offset : ℕ) where
-  abbrev readerRows : List (ℕ × Bool)
-  readerRows = (scriptTooLong, ltb longestScript (length script)) ∷ (unknownMark, ltb (length script) offset || not (eqb (numberThere script offset) 0)) ∷ []
-
-  inside : offset ≤ length script → numberThere script offset ≡ cond (not (eqb (numberThere script offset) 0)) 12 0
-  inside h = ⊎-elim (λ e. rw e refl) (λ e. rw e refl) (number-there script offset h)
-
-  reader-first : numberOf (recordAt script offset) ≡ firstOf readerRows
-  reader-first =
-      cases (ltb longestScript (length script)) (λ t. ap numberOf (record-at-long script offset (ltb-true longestScript (length script) t)) ∙ rw t refl)
-      (λ t. let short = ltb-false longestScript (length script) t in
-      cases (ltb (length script) offset) (λ u. ap numberOf (record-at-past script offset short (ltb-true (length script) offset u)) ∙ rw (t, u) refl)
-      (λ u. let h = ltb-false (length script) offset u in ap numberOf (record-at-inside script offset short h) ∙ rw (t, u) (inside h)))
-
-  pub reader-refusals : ReaderRefusals script offset
-  reader-refusals = record {
-    numbers = numbered readerRows _ (numberOf (recordAt script offset)) refl reader-first
-        (row (means-less 32768 (length script)) refl (λ _. row (means-bad-record script offset) refl (λ _. tt)));
+    numbers = numbered (scriptRefusals wp script d output) _ (ran .number) refl
+        (run .number-is ∙ first-exactly (scriptRefusals wp script d output) _ (script-exactly wp script d output))
+        (row (means-not-sound (d .state)) (λ _. refl)
+        (λ sound. row (means-wrong-array (d .state) (not-false (isSound (d .state)) sound) (d .array)) (λ _. refl)
+        (λ _. row (means-less 32768 (length script)) (λ _. refl)
+        (λ _. row (means-bad-mark script bytes) (λ _. refl)
+        (λ mark. row (means-bad-length script bytes) (λ _. refl)
+        (λ long. row (means-bad-cut script bytes) (λ _. refl) (λ cut. row (means-wrong-sum script bytes output mark long cut) (λ _. refl) (λ _. tt))))))));
+    refusal-keeps = λ some.
+        let refused = script-refused wp script d output (λ z. omega (arith, run .number-is, z, some)) in
+        let same = run-script-determined wp script d output _ _ _ _ _ _ run refused in
+        (same .0 ∙ rw (run .number-is, run .offset-is) refl, same .1);
+    located = rw (run .number-is, run .offset-is) located;
   }

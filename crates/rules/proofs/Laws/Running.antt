@@ -3,7 +3,6 @@
 use mathlib.Core.Path.{_≡_, refl, sym, ap, _∙_}
 use mathlib.Core.Bool.{Bool, false, not}
 use mathlib.Core.List.{List, [], _∷_, _++_}
-use mathlib.Core.Logic.{inl, inr}
 use Prim.Native.Nat.{ℕ, _≤_}
 use native.Mathlib.Omega.{arith}
 use lib.Dec.{eqb}
@@ -102,12 +101,12 @@ module _ (wp : Bool) where
     sized-row : not (eqb (length (d .array)) (dataOf (d .state) .size)) ≡ false
     sized-row = rw (eq-eqb (length (d .array)) (dataOf (d .state) .size) (ready .sized)) refl
 
-    wrong-length-12 : (rs : List Record) (bytes output : List ℕ) → AllFit rs → length (encode rs ++ bytes) ≤ longestScript → front bytes ≡ malformed wrongLength
-        → scriptNumber wp (encode rs ++ bytes) d output ≡ 12
-    wrong-length-12 rs bytes output fit short e =
+    wrong-length-13 : (rs : List Record) (bytes output : List ℕ) → AllFit rs → length (encode rs ++ bytes) ≤ longestScript → front bytes ≡ malformed wrongLength
+        → scriptNumber wp (encode rs ++ bytes) d output ≡ 13
+    wrong-length-13 rs bytes output fit short e =
         let bad = decode-bad-behind rs bytes fit e in
-        script-exactly wp (encode rs ++ bytes) d output 12 (omega arith) .only-when
-        (sound-row, (sized-row, (le-ltb longestScript (length (encode rs ++ bytes)) short, inr (rw bad refl, inl (rw bad refl)))))
+        script-exactly wp (encode rs ++ bytes) d output 13 (omega arith) .only-when
+        (sound-row, (sized-row, (le-ltb longestScript (length (encode rs ++ bytes)) short, (rw bad refl, rw bad refl))))
 
     pub script-rules : ScriptRules wp d
     script-rules = record {
@@ -116,7 +115,7 @@ module _ (wp : Bool) where
       too-long-is-none = λ script output long.
           script-exactly wp script d output 11 (omega arith) .only-when (sound-row, (sized-row, lt-ltb longestScript (length script) long));
       wrong-length-is-none = λ rs high low rest output fit short wrong.
-          wrong-length-12 rs (0x5a ∷ 0x46 ∷ high ∷ low ∷ rest) output fit short (wrong-length-here high low rest (wrong-length high low wrong));
+          wrong-length-13 rs (0x5a ∷ 0x46 ∷ high ∷ low ∷ rest) output fit short (wrong-length-here high low rest (wrong-length high low wrong));
       no-output = output-none;
       frame-output = output-frame;
       wait-output = output-wait;

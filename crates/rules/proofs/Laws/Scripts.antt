@@ -74,5 +74,6 @@ module _ (script : List ℕ) (offset : ℕ) where
         (λ bytes behind q. let w = front-at-end script offset (omega arith) in let z : _≡_ {A = ℕ} 0 1 = cc in omega arith);
     end-offset = λ e. rw e at (offset-given-back script offset);
     wrong-length-refused = λ high low rest short e wrong. answered short (some-inside e) (ap front e ∙ wrong-length-here high low rest (wrong-length high low wrong));
+    past-refused = λ short past. record-at-past script offset short past;
     too-long-refused = λ long. record-at-long script offset long;
   }

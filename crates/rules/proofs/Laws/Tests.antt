@@ -1,12 +1,12 @@
--- Tests and what they mean: of two numbers, and joined by `not` and `||`.
+-- Tests and what they mean: of two numbers, and joined by `not`, `&&` and `||`.
 -- Assumes nothing.
 use mathlib.Core.Path.{_≡_, refl, sym, _∙_}
-use mathlib.Core.Bool.{Bool, true, false, true≢false, _||_, not}
+use mathlib.Core.Bool.{Bool, true, false, true≢false, _&&_, _||_, not}
 use mathlib.Core.Logic.{_⊎_, inl, inr, ⊎-elim}
 use Prim.Native.Nat.{ℕ, _<_}
 use lib.Dec.{ltb, eqb}
 use borrow.Author.Tests.{eqb-true, eq-eqb, ltb-true, lt-ltb, not-true}
-use Rattle.common.proofs.Laws.Booleans.{not-i, or-imp, imp-or}
+use Rattle.common.proofs.Laws.Booleans.{and-l, and-r, and-i, not-i, or-imp, imp-or}
 use Rattle.common.proofs.Laws.Choice.{cases}
 use Rattle.common.specs.Refusals.{Exactly}
 
@@ -24,6 +24,12 @@ pub means-not : {A : Type 0} (b : Bool) → Exactly (b ≡ true) A → Exactly (
 means-not b m = record {
   when = λ e a. true≢false (sym (m .only-when a) ∙ not-true b e);
   only-when = λ never. not-i b (off b (λ t. never (m .when t)));
+}
+
+pub means-and : {A B : Type 0} (a b : Bool) → Exactly (a ≡ true) A → Exactly (b ≡ true) B → Exactly (a && b ≡ true) (A × B)
+means-and a b m n = record {
+  when = λ e. (m .when (and-l a b e), n .when (and-r a b e));
+  only-when = λ w. and-i (m .only-when (w .0)) (n .only-when (w .1));
 }
 
 pub means-or : {A B : Type 0} (a b : Bool) → Exactly (a ≡ true) A → Exactly (b ≡ true) B → Exactly (a || b ≡ true) (A ⊎ B)

@@ -1,28 +1,41 @@
 -- When a script is accepted, and when it gets which refusal; its survey tells the same.
 -- Assumes nothing.
 use mathlib.Core.Path.{_≡_, refl, sym, ap, _∙_}
-use mathlib.Core.Bool.{Bool, true, false, true≢false, cond, not}
-use mathlib.Core.List.{List}
+use mathlib.Core.Bool.{Bool, true, false, true≢false, false≢true, cond, not}
+use mathlib.Core.List.{List, [], _∷_, _++_}
 use Prim.Native.Nat.{ℕ, _≤_, _<_}
-use lib.Dec.{ltb, eqb}
+use native.Mathlib.Omega.{arith}
+use lib.Dec.{eqb}
 use lib.ListN.{length}
-use borrow.Author.Tests.{eqb-true, eq-eqb, ltb-true, ltb-false, le-ltb, not-false}
+use borrow.Author.Tests.{eqb-true, eqb-false, eq-eqb, ltb-false, le-ltb, not-false}
 use Rattle.common.specs.Limits.{longestScript}
-use Rattle.common.specs.Refusals.{wrongOutput, Exactly}
+use Rattle.common.specs.Refusals.{stateNotSound, wrongArray, wrongOutput, firstOf, Exactly}
 use Rattle.common.proofs.Laws.Choice.{cases}
-use Rattle.common.proofs.Laws.Refusals.{Clear, clear, first-of-clear, Given, given-exactly}
+use Rattle.common.proofs.Laws.Refusals.{Clear, clear, first-of-clear, Given, given-exactly, first-behind, first-before}
 use Rattle.state.specs.State.{dataOf}
 use Rattle.state.specs.Soundness.{isSound, Sound}
 use Rattle.state.proofs.Laws.Soundness.{sound-of, of-sound}
 use Rattle.script.specs.Record.{Record, AllFit, encode, scriptLength, framesIn, microsecondsIn, outputLength}
-use Rattle.script.specs.Decode.{unknownMark, wrongLength, cutShort, isUnknownMark, isWrongLength, isCutShort, Decoded, records, badAt, isBad, decode, recordsIn, recordsOf}
-use Rattle.script.specs.declared.survey.Survey.{Survey}
-use Rattle.script.specs.Survey.{countedSurvey, surveyOf}
+use Rattle.script.specs.Decode.{Fault, unknownMark, wrongLength, cutShort, faultNumber, isUnknownMark, isWrongLength, isCutShort, Decoded, records, badAt, isBad, badOffset, decode, recordsIn, recordsOf}
+use Rattle.script.specs.declared.survey.Surveyed.{Surveyed}
+use Rattle.script.specs.Survey.{surveyRefusals, countedSurvey, surveyOf}
 use Rattle.script.proofs.Laws.Records.{encoded-length}
 use Rattle.script.proofs.Laws.Decode.{decode-encode}
-use Rattle.script.proofs.Laws.Survey.{survey-long, survey-short}
+use Rattle.script.proofs.Laws.Survey.{survey-short, survey-by, survey-number, survey-output}
 use Rattle.frame.specs.Device.{Device}
-use Rattle.run.specs.Script.{scriptRefusals, scriptNumber, ScriptAccepted}
+use Rattle.run.specs.Script.{scriptRefusals, scriptNumber, ScriptAccepted, carriesOffset, scriptOffset}
+
+-- the number of a bad record carries an offset
+pub fault-carries : (fault : Fault) → carriesOffset (faultNumber fault) ≡ true
+fault-carries unknownMark = refl
+fault-carries wrongLength = refl
+fault-carries cutShort = refl
+
+-- "these three alone": the survey's offset
+pub survey-located : (script : List ℕ) → surveyOf script .offset ≡ cond (carriesOffset (surveyOf script .number)) (badOffset (decode script)) 0
+survey-located script =
+    survey-by (λ s. s .offset ≡ cond (carriesOffset (s .number)) (badOffset (decode script)) 0) script (λ _. refl) (λ _ _ _. refl)
+    (λ fault _ _ e. rw (fault-carries fault, e) refl)
 
 module _ (wp : Bool) (script : List ℕ) (d : Device) (output : List ℕ) where
   abbrev rows : List (ℕ × Bool)
@@ -71,30 +84,80 @@ module _ (wp : Bool) (script : List ℕ) (d : Device) (output : List ℕ) where
   unfolding scriptNumber
   accepted-number a = first-of-clear rows (accepted-clear a)
 
-  -- behind 1 and 2 the survey tells the rest: its own number, then the output's length
-  module _ (sound : isSound (d .state) ≡ true) (sized : length (d .array) ≡ dataOf (d .state) .size) where
-    abbrev bySurvey : Survey → ℕ
-    bySurvey survey = cond (not (eqb (survey .number) 0)) (survey .number) (cond (not (eqb (length output) (survey .output))) wrongOutput 0)
+  -- the survey tells all but 1 and 2: its own number, then the output's length
+  abbrev bySurvey : Surveyed → List (ℕ × Bool)
+  bySurvey survey = (survey .number, not (eqb (survey .number) 0)) ∷ (wrongOutput, not (eqb (length output) (survey .output))) ∷ []
 
-    pub number-surveyed : scriptNumber wp script d output ≡ bySurvey (surveyOf script)
-    unfolding scriptNumber
-    number-surveyed =
-        cases (ltb longestScript (length script))
-        (λ t. rw (sound, eq-eqb _ _ sized, t, survey-long script (ltb-true longestScript (length script) t)) refl)
-        (λ t. by-decoded (ltb-false longestScript (length script) t) (decode script) refl)
-      where
-        by-decoded : length script ≤ longestScript → (e : Decoded) → decode script ≡ e → scriptNumber wp script d output ≡ bySurvey (surveyOf script)
-        by-decoded l (records rs) e = rw (sound, eq-eqb _ _ sized, survey-short script l, le-ltb longestScript (length script) l, e) refl
-        by-decoded l (badAt unknownMark offset) e = rw (sound, eq-eqb _ _ sized, survey-short script l, le-ltb longestScript (length script) l, e) refl
-        by-decoded l (badAt wrongLength offset) e = rw (sound, eq-eqb _ _ sized, survey-short script l, le-ltb longestScript (length script) l, e) refl
-        by-decoded l (badAt cutShort offset) e = rw (sound, eq-eqb _ _ sized, survey-short script l, le-ltb longestScript (length script) l, e) refl
+  abbrev last : List (ℕ × Bool)
+  last = (wrongOutput, not (eqb (length output) (outputLength (recordsOf script)))) ∷ []
 
-    -- where the output is as long as was counted, the survey's alone
-    pub number-by-survey : length output ≡ surveyOf script .output → scriptNumber wp script d output ≡ surveyOf script .number
-    number-by-survey o = number-surveyed ∙ rw (eq-eqb _ _ o) (by-number (surveyOf script .number))
-      where
-        by-number : (n : ℕ) → cond (not (eqb n 0)) n 0 ≡ n
-        by-number n = cases (eqb n 0) (λ t. rw t (sym (eqb-true n 0 t))) (λ t. rw t refl)
+  behind-two : firstOf (surveyRefusals script ++ last) ≡ firstOf (bySurvey (surveyOf script))
+  behind-two =
+      cases (eqb (surveyOf script .number) 0)
+      (λ t. let none = eqb-true (surveyOf script .number) 0 t in
+      first-behind (surveyRefusals script) last (clear (surveyRefusals script) refl (sym (survey-number script) ∙ none)) ∙ rw (survey-output script none, t) refl)
+      (λ t. let some = eqb-false (surveyOf script .number) 0 t in
+      first-before (surveyRefusals script) last (surveyOf script .number) (omega (arith, some)) (sym (survey-number script)) ∙ rw t refl)
+
+  pub number-surveyed : scriptNumber wp script d output
+      ≡ firstOf ((stateNotSound, not (isSound (d .state))) ∷ (wrongArray, not (eqb (length (d .array)) (dataOf (d .state) .size))) ∷ bySurvey (surveyOf script))
+  unfolding scriptNumber
+  number-surveyed = rw behind-two refl
+
+  -- a script that the survey accepts is refused for the state, the array or the output's length alone: 1, 2 or 4
+  pub survey-accepts : surveyOf script .number ≡ 0
+      → scriptNumber wp script d output
+      ≡ firstOf (
+      (stateNotSound, not (isSound (d .state)))
+      ∷ (wrongArray, not (eqb (length (d .array)) (dataOf (d .state) .size)))
+      ∷ (wrongOutput, not (eqb (length output) (surveyOf script .output)))
+      ∷ [])
+  survey-accepts e = number-surveyed ∙ rw e refl
+
+  -- on a sound chip with an output as long as was counted, the number is the survey's
+  pub number-by-survey : isSound (d .state) ≡ true → length (d .array) ≡ dataOf (d .state) .size → length output ≡ surveyOf script .output
+      → scriptNumber wp script d output ≡ surveyOf script .number
+  number-by-survey sound sized o = number-surveyed ∙ rw (sound, eq-eqb _ _ sized, eq-eqb _ _ o) (by-number (surveyOf script .number))
+    where
+      by-number : (n : ℕ) → cond (not (eqb n 0)) n 0 ≡ n
+      by-number n = cases (eqb n 0) (λ t. rw t (sym (eqb-true n 0 t))) (λ t. rw t refl)
+
+  -- ---- the offset
+
+  -- where the number carries one, it is the survey's number
+  pub carried-surveyed : carriesOffset (scriptNumber wp script d output) ≡ true → scriptNumber wp script d output ≡ surveyOf script .number
+  carried-surveyed h =
+      number-surveyed
+      ∙ by-tests (isSound (d .state)) (eqb (length (d .array)) (dataOf (d .state) .size)) (eqb (surveyOf script .number) 0) (eqb (length output) (surveyOf script .output))
+      (rw number-surveyed at h)
+    where
+      -- behind a sound state, an array of its size and a survey with number 0 the output's length is left
+      told : Bool → Bool → Bool → Bool → ℕ
+      told sound sized good same =
+          cond (not sound) stateNotSound
+          (cond (not sized) wrongArray (cond (not good) (surveyOf script .number) (cond (not same) wrongOutput 0)))
+
+      by-tests : (sound sized good same : Bool) → carriesOffset (told sound sized good same) ≡ true → told sound sized good same ≡ surveyOf script .number
+      by-tests false sized good same h = absurd (false≢true h)
+      by-tests true false good same h = absurd (false≢true h)
+      by-tests true true false same h = refl
+      by-tests true true true false h = absurd (false≢true h)
+      by-tests true true true true h = absurd (false≢true h)
+
+  pub script-located : scriptOffset wp script d output ≡ cond (carriesOffset (scriptNumber wp script d output)) (badOffset (decode script)) 0
+  unfolding scriptOffset
+  script-located = refl
+
+  -- and the survey's offset
+  pub offset-surveyed : scriptOffset wp script d output ≡ cond (carriesOffset (scriptNumber wp script d output)) (surveyOf script .offset) 0
+  offset-surveyed =
+      cases (carriesOffset (scriptNumber wp script d output))
+      (λ t. let same : surveyOf script .offset ≡ badOffset (decode script) = survey-located script ∙ rw (sym (carried-surveyed t), t) refl in script-located ∙ rw (t, same) refl)
+      (λ t. script-located ∙ rw t refl)
+
+  -- "these three alone carry an offset"
+  pub offset-only : carriesOffset (scriptNumber wp script d output) ≡ false → scriptOffset wp script d output ≡ 0
+  offset-only none = script-located ∙ rw none refl
 
   -- it counts what the records do
   pub counts-surveyed : ScriptAccepted wp script d output

@@ -33,7 +33,7 @@ use Rattle.run.specs.Script.{ScriptAccepted, ScriptRun}
 use Rattle.run.proofs.Laws.Accepted.{number-accepted}
 use Rattle.run.proofs.Laws.Run.{Ready, run-none, run-first, run-append, outputs-append, run-ready, step-by-frame}
 use Rattle.run.proofs.Laws.Trace.{step-wait}
-use Rattle.run.proofs.Laws.Script.{ranBy, script-ran, run-script-determined}
+use Rattle.run.proofs.Laws.Script.{ranOf, script-ran, run-script-determined}
 
 -- ---- two parts
 
@@ -60,7 +60,7 @@ module _ (first second : List ℕ) (bytes : Bytes (first ++ second)) where
 
 -- what an accepted call answers and leaves, by the records that are read
 pub record RanRecords (wp : Bool) (rs : List Record) (d : Device) (ran : Ran) (after : Device) (out : List ℕ) : Type 0 where
-  pub answer-is : ran ≡ ranBy 0 (run wp rs d .state) (framesIn rs) (microsecondsIn rs)
+  pub answer-is : ran ≡ ranOf (run wp rs d .state) (framesIn rs) (microsecondsIn rs)
   pub device-is : after ≡ run wp rs d
   pub output-is : out ≡ outputs wp rs d
 
@@ -74,7 +74,7 @@ script-ran-records wp script d output {ran} {after} {out} {rs} runs good e =
 -- of records one after another
 ran-in-two : {wp : Bool} {rs ss : List Record} {d : Device} {whole earlier later : Ran} {after between behind : Device} {out shown shownThen : List ℕ}
     → RanRecords wp (rs ++ ss) d whole after out → RanRecords wp rs d earlier between shown → RanRecords wp ss between later behind shownThen
-    → (whole ≡ ranBy 0 (later .state) (earlier .frames + later .frames) (earlier .microseconds + later .microseconds))
+    → (whole ≡ ranOf (later .state) (earlier .frames + later .frames) (earlier .microseconds + later .microseconds))
     × ((after ≡ behind) × (out ≡ shown ++ shownThen))
 ran-in-two {wp} {rs} {ss} {d} x y z =
     rw (
@@ -125,7 +125,7 @@ module _ (wp : Bool) (first second : List ℕ) (d : Device) (output : List ℕ) 
       → ScriptRun wp (first ++ second) d output whole after out → whole .number ≡ 0
       → ScriptRun wp first d part earlier between shown → earlier .number ≡ 0
       → ScriptRun wp second between others later behind shownThen → later .number ≡ 0
-      → (whole ≡ ranBy 0 (later .state) (earlier .frames + later .frames) (earlier .microseconds + later .microseconds))
+      → (whole ≡ ranOf (later .state) (earlier .frames + later .frames) (earlier .microseconds + later .microseconds))
       × ((after ≡ behind) × (out ≡ shown ++ shownThen))
   run-in-two bytes {whole} {earlier} {later} {after} {between} {behind} {part} {others} {out} {shown} {shownThen} w good e goodFirst l goodSecond =
       let a = number-accepted wp first d part (sym (e .number-is) ∙ goodFirst) in
@@ -136,7 +136,7 @@ module _ (wp : Bool) (first second : List ℕ) (d : Device) (output : List ℕ) 
 -- a script of records one after another: the call on those before alone is accepted, and leaves the chip behind them
 pub records-before-ran : (wp : Bool) (before after : List Record) (d : Device) (output : List ℕ) → AllFit before
     → ScriptAccepted wp (encode before ++ encode after) d output → (part : List ℕ) → length part ≡ outputLength before
-    → ScriptRun wp (encode before) d part (ranBy 0 (run wp before d .state) (framesIn before) (microsecondsIn before)) (run wp before d) (outputs wp before d)
+    → ScriptRun wp (encode before) d part (ranOf (run wp before d .state) (framesIn before) (microsecondsIn before)) (run wp before d) (outputs wp before d)
 records-before-ran wp before after d output fit a part long =
     let e = decode-encode before fit in
     rw e at (script-ran wp (encode before) d part (front-accepted wp (encode before) (encode after) d output a e part long))

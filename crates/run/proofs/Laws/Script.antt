@@ -20,20 +20,24 @@ use Rattle.frame.specs.Device.{Device}
 use Rattle.frame.specs.Call.{Accepted}
 use Rattle.run.specs.declared.Ran.{Ran}
 use Rattle.run.specs.Run.{run, outputs}
-use Rattle.run.specs.Script.{scriptNumber, ScriptAccepted, ScriptDone, scriptDevice, scriptOutput, scriptCount, ScriptRun}
-use Rattle.run.proofs.Laws.Accepted.{accepted-number}
+use Rattle.run.specs.Script.{scriptNumber, ScriptAccepted, ScriptDone, scriptDevice, scriptOutput, scriptCount, carriesOffset, scriptOffset, ScriptRun}
+use Rattle.run.proofs.Laws.Accepted.{accepted-number, offset-only}
 use Rattle.run.proofs.Laws.Run.{run-sound, frame-accepted-among}
 
--- an answer, by the refusal's number or 0, the chip's state and the counts
-abbrev pub ranBy : ℕ → State → ℕ → ℕ → Ran
-ranBy number s frames microseconds = record { number = number; state = s; frames = frames; microseconds = microseconds }
+-- the answer to a script that is run: the chip's state and the counts
+abbrev pub ranOf : State → ℕ → ℕ → Ran
+ranOf s frames microseconds = record { number = 0; state = s; frames = frames; microseconds = microseconds; offset = 0 }
+
+-- and to a refused one: the number with its offset, the given state, "counts 0"
+abbrev pub refusedRan : ℕ → State → ℕ → Ran
+refusedRan number s offset = record { number = number; state = s; frames = 0; microseconds = 0; offset = offset }
 
 module _ (wp : Bool) (script : List ℕ) (d : Device) (output : List ℕ) where
   abbrev number : ℕ
   number = scriptNumber wp script d output
 
   -- "A refusal changes no buffer and returns the given state, length and counts 0"
-  pub script-refused : (number ≡ 0 → ⊥) → ScriptRun wp script d output (ranBy number (d .state) 0 0) d output
+  pub script-refused : (number ≡ 0 → ⊥) → ScriptRun wp script d output (refusedRan number (d .state) (scriptOffset wp script d output)) d output
   unfolding scriptDevice scriptOutput scriptCount
   script-refused h =
       let t = ne-eqb number 0 h in
@@ -43,6 +47,7 @@ module _ (wp : Bool) (script : List ℕ) (d : Device) (output : List ℕ) where
         state-is = ap (λ (e : Device). e .state) same;
         frames-are = no _ t refl;
         microseconds-are = no _ t refl;
+        offset-is = refl;
         device-is = same;
         output-is = no _ t refl;
       }
@@ -53,7 +58,7 @@ module _ (wp : Bool) (script : List ℕ) (d : Device) (output : List ℕ) where
       let r = script-refused (λ z. omega (arith, p .number-is, z, some)) in (p .device-is ∙ sym (r .device-is), p .output-is ∙ sym (r .output-is))
 
   pub script-accepted : {after : Device} {outputAfter : List ℕ} → ScriptAccepted wp script d output → ScriptDone wp script d after outputAfter
-      → ScriptRun wp script d output (ranBy 0 (after .state) (framesIn (recordsOf script)) (microsecondsIn (recordsOf script))) after outputAfter
+      → ScriptRun wp script d output (ranOf (after .state) (framesIn (recordsOf script)) (microsecondsIn (recordsOf script))) after outputAfter
   unfolding scriptDevice scriptOutput scriptCount
   script-accepted {after} a done =
       let e = accepted-number wp script d output a in
@@ -64,13 +69,14 @@ module _ (wp : Bool) (script : List ℕ) (d : Device) (output : List ℕ) where
         state-is = ap (λ (x : Device). x .state) ran;
         frames-are = yes _ t refl;
         microseconds-are = yes _ t refl;
+        offset-is = sym (offset-only wp script d output (ap carriesOffset e));
         device-is = ran;
         output-is = yes _ t (done .output-is);
       }
 
   pub script-ran : ScriptAccepted wp script d output
       → let e = run wp (recordsOf script) d in
-      ScriptRun wp script d output (ranBy 0 (e .state) (framesIn (recordsOf script)) (microsecondsIn (recordsOf script))) e (outputs wp (recordsOf script) d)
+      ScriptRun wp script d output (ranOf (e .state) (framesIn (recordsOf script)) (microsecondsIn (recordsOf script))) e (outputs wp (recordsOf script) d)
   script-ran a = script-accepted a record { device-is = refl; output-is = refl }
 
   -- inside an accepted script no frame is refused
@@ -95,6 +101,7 @@ module _ (wp : Bool) (script : List ℕ) (d : Device) (output : List ℕ) where
         state = (p .state-is ∙ sym (q .state-is)) i;
         frames = (p .frames-are ∙ sym (q .frames-are)) i;
         microseconds = (p .microseconds-are ∙ sym (q .microseconds-are)) i;
+        offset = (p .offset-is ∙ sym (q .offset-is)) i;
       },
       (p .device-is ∙ sym (q .device-is), p .output-is ∙ sym (q .output-is)),
     )

@@ -3,7 +3,7 @@
 use mathlib.Core.Path.{sym, _∙_}
 use Rattle.frame.specs.Device.{device}
 use Rattle.run.specs.Script.{ScriptAccepted}
-use Rattle.run.proofs.Laws.Accepted.{number-accepted, counts-surveyed}
+use Rattle.run.proofs.Laws.Accepted.{number-accepted, offset-surveyed, counts-surveyed}
 use Rattle.run.proofs.Laws.Script.{script-refused, script-accepted}
 use borrow.Author.Needs.{needs}
 use Rattle.run.proofs.run_script.Statement.{statement}
@@ -18,16 +18,22 @@ survey-of-requires c κs = search needs
 script-number-requires : tie.Need-script-number-requires
 script-number-requires c κs = c .before .before .survey-of .ensures
 
+script-offset-requires : tie.Need-script-offset-requires
+script-offset-requires c κs = search needs
+
 same-length : tie.Need-same-length
 same-length c = search needs
 
 same-length-2 : tie.Need-same-length-2
 same-length-2 c = search needs
 
+-- the offset told is the survey's, where the number carries one
 returns : tie.Need-returns
 returns c =
-    let e = c .before .script-number .ensures in
-    rw e (script-refused _ _ _ _ (λ z. c .if1 .taken (e ∙ z)))
+    let number-is = c .before .before .script-number .ensures in
+    let survey-is = c .before .before .before .before .before .survey-of .ensures in
+    let told = rw (number-is, survey-is) at (c .script-offset .ensures) in
+    rw (number-is, told ∙ sym (offset-surveyed _ _ _ _)) (script-refused _ _ _ _ (λ z. c .before .if1 .taken (number-is ∙ z)))
 
 run-records-requires : tie.Need-run-records-requires
 run-records-requires c κs = took (c .before .before)
@@ -49,6 +55,7 @@ run-script-spec =
     (tie.spec
     survey-of-requires
     script-number-requires
+    script-offset-requires
     same-length
     same-length-2
     returns

@@ -16,7 +16,7 @@ use Rattle.script.specs.Record.{Record, frame, wait, scriptMark, frameMa
 use Rattle.common.specs.Bits.{Bytes}
 use Rattle.common.specs.Numbers.{twoBytes, fourBytes}
 use Rattle.common.specs.Limits.{longestFrame}
-use Rattle.script.specs.Decode.{wrongLength, cutShort, Front, end, item, malformed, frontBody, frontFrame, frontWait, front}
+use Rattle.script.specs.Decode.{Fault, wrongLength, cutShort, Front, end, item, malformed, frontBody, frontFrame, frontWait, front}
 
 four-bytes-back : (n : ℕ) → n < 4294967296 → fourBytes (n / 16777216) (n / 65536 % 256) (n / 256 % 256) (n % 256) ≡ n
 four-bytes-back n h =
@@ -144,6 +144,12 @@ front-seen (first ∷ second ∷ bytes) =
     let P = Seen (first ∷ second ∷ bytes) in
     cond-elim P (eqb first scriptMark && eqb second frameMark) (λ mark. frame-seen first second bytes mark)
     (λ other. cond-elim P (eqb first scriptMark && eqb second waitMark) (λ mark. wait-seen first second bytes other mark) (λ _. tt))
+
+-- bytes that are no record are some bytes
+pub malformed-some : (bytes : List ℕ) {fault : Fault} → front bytes ≡ malformed fault → 0 < length bytes
+unfolding front
+malformed-some [] {fault} e = let z : _≡_ {A = ℕ} 0 1 = cc in absurd (omega arith)
+malformed-some (first ∷ bytes) {fault} e = omega arith
 
 -- a record that is read
 pub front-item : (bytes : List ℕ) {r : Record} {rest : List ℕ} → front bytes ≡ item r rest → Item bytes r rest

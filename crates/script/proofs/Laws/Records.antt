@@ -79,7 +79,7 @@ unfolding scriptLength
 script-length-append [] ss = omega arith
 script-length-append (r ∷ rs) ss = omega (arith, script-length-append rs ss)
 
-encoded-record-length : (r : Record) → length (encodeRecord r) ≡ recordLength r
+pub encoded-record-length : (r : Record) → length (encodeRecord r) ≡ recordLength r
 unfolding encodeRecord
 encoded-record-length (frame bytes) = omega arith
 encoded-record-length (wait n) = refl

@@ -3,7 +3,7 @@
 
 use std::process::ExitCode;
 
-use cases::{explore, levels, samples, Difference};
+use cases::{explore, written_out, Difference};
 use model::{Fault, Model};
 
 const SEED: u64 = 1;
@@ -13,9 +13,9 @@ fn main() -> ExitCode {
     let seed = std::env::args().nth(1).and_then(|text| text.parse().ok());
     let seed = seed.unwrap_or(SEED);
 
-    let failing = [samples::failing::<Model>(), levels::failing::<Model>()].concat();
+    let failing = written_out::<Model>();
     let mut sharp = failing.is_empty() && explore::<Model>(seed, CASES, |_, _, _| ()).is_ok();
-    println!("samples and levels that the right model fails: {failing:?}");
+    println!("cases written out that the right model fails: {failing:?}");
     println!("{:<28} {:>8}  call", "wrong copy", "case");
     for fault in FAULTS {
         let name = format!("{fault:?}");
@@ -76,4 +76,16 @@ faults! {
     LockCheckedBeforeBits
     OutputCheckedBeforeRecords
     WaitsWrap
+    EmptyFrameAccepted
+    LongerFrameAccepted
+    LengthCheckedLast
+    LastByteUnknownMark
+    ShortWaitUnknownMark
+    PastEndUnknownMark
+    OffsetOfLastGood
+    OffsetOfLength
+    OffsetWithState
+    OffsetWithArray
+    OffsetWithOutput
+    RefusedSurveyCounts
 }

@@ -4,8 +4,9 @@ use std::fmt;
 
 use model::{kind, Reason};
 
-use super::sorts::{FrameSort, PlanSort, RunSort, TimeSort};
+use super::sorts::{FrameSort, PlanSort, ScriptSort, TimeSort};
 use super::Met;
+use crate::case::BAD_RECORD;
 use crate::{frames, CHIPS, F25L008A, F25L05PA};
 
 /// Things of one kind, each of which has to be met at least so many times.
@@ -33,10 +34,11 @@ pub fn goals() -> Vec<Goals> {
         goal("opcodes unknown, cut", 2, unknown("cut_frame")),
         goal("refusals", 100, refused()),
         goal("refusals before others", 50, refused_first()),
+        goal("bad records, by place", 50, bad_records()),
         goal("levels of protection and WP", 100, levels()),
         goal("sorts of frames", 15, frame_sorts()),
         goal("sorts of plans", 30, plan_sorts()),
-        goal("sorts of runs", 50, run_sorts()),
+        goal("sorts of runs and surveys", 50, script_sorts()),
         goal("sorts of waits", 50, time_sorts()),
         goal("kinds of records", 100, records()),
     ]
@@ -90,13 +92,18 @@ fn unknown(call: &'static str) -> Vec<Met> {
 
 /// Each refusal of each call that can give it, and on each chip.
 fn refused() -> Vec<Met> {
-    let without_chip: [(&str, &[u32]); 4] =
-        [("new", &[1]), ("power_up", &[1]), ("wait", &[1]), ("read", &[11, 12])];
+    let without_chip: [(&str, &[u32]); 5] = [
+        ("new", &[1]),
+        ("power_up", &[1]),
+        ("wait", &[1]),
+        ("survey", &[11, 12, 13, 14]),
+        ("read", &[11, 12, 13, 14]),
+    ];
     let with_chip: [(&str, &[u32]); 4] = [
         ("frame", &[1, 2, 3, 4]),
         ("cut_frame", &[1, 2, 3, 4, 5]),
         ("plan", &[1, 2, 6, 7, 8, 9, 10]),
-        ("run", &[1, 2, 11, 12, 4]),
+        ("run", &[1, 2, 11, 12, 13, 14, 4]),
     ];
     let mut all = Vec::new();
     for (call, numbers) in without_chip {
@@ -113,17 +120,34 @@ fn refused() -> Vec<Met> {
 
 /// A refusal where a later one in the order of checks would hold too.
 fn refused_first() -> Vec<Met> {
-    let calls: [(&str, &[(u32, u32)]); 5] = [
+    let script = [(11, 12), (11, 13), (11, 14), (12, 13), (12, 14), (13, 12), (13, 14)];
+    let before_script = [(1, 2), (1, 12), (1, 13), (1, 14), (2, 11), (2, 12), (2, 13), (2, 14)];
+    let before_output = [(1, 4), (11, 4), (12, 4), (13, 4), (14, 4)];
+    let calls: [(&str, &[(u32, u32)]); 8] = [
         ("frame", &[(1, 2), (1, 3), (1, 4), (2, 3), (2, 4), (3, 4)]),
         ("cut_frame", &[(1, 2), (1, 5), (2, 3), (2, 5), (3, 4), (3, 5), (4, 5)]),
         ("plan", &[(1, 2), (2, 6), (6, 7), (7, 8), (7, 10), (8, 9), (8, 10), (9, 10)]),
-        ("run", &[(1, 2), (1, 4), (2, 11), (2, 12), (11, 12), (11, 4), (12, 4)]),
-        ("read", &[(11, 12)]),
+        ("run", &before_script),
+        ("run", &script),
+        ("run", &before_output),
+        ("survey", &script),
+        ("read", &[(11, 14)]),
     ];
     let mut all = Vec::new();
     for (call, pairs) in calls {
         let each = |&(number, other)| Met::RefusedFirst { call, number, other };
         all.extend(pairs.iter().map(each));
+    }
+    all
+}
+
+/// Each refusal of a bad record, at the script's front and behind good records.
+fn bad_records() -> Vec<Met> {
+    let mut all = Vec::new();
+    for call in ["run", "survey", "read"] {
+        for number in BAD_RECORD {
+            all.extend([false, true].map(|behind| Met::BadRecord { call, number, behind }));
+        }
     }
     all
 }
@@ -169,10 +193,11 @@ fn plan_sorts() -> Vec<Met> {
     all
 }
 
-fn run_sorts() -> Vec<Met> {
+fn script_sorts() -> Vec<Met> {
     let mut all = Vec::new();
-    for chip in CHIPS {
-        all.extend(RunSort::ALL.iter().map(|&sort| Met::Run { chip, sort }));
+    for &sort in ScriptSort::ALL {
+        all.extend(CHIPS.map(|chip| Met::Run { chip, sort }));
+        all.push(Met::Survey { sort });
     }
     all
 }

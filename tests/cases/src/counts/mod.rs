@@ -7,11 +7,11 @@ use std::collections::BTreeMap;
 
 use model::{Model, Reason, State};
 
-use crate::case::{Case, On, Outcome};
+use crate::case::{Case, On, Outcome, BAD_RECORD};
 use crate::generator::Item;
 use crate::CHIPS;
 pub use goals::{goals, Goals};
-use sorts::{FrameSort, PlanSort, RunSort, TimeSort};
+use sorts::{FrameSort, PlanSort, ScriptSort, TimeSort};
 
 /// Something that a case can meet. An unknown chip has number 0, as has none.
 #[derive(Clone, Copy, Debug, PartialEq, Eq, PartialOrd, Ord)]
@@ -24,6 +24,8 @@ pub enum Met {
     Refused { call: &'static str, chip: u8, number: u32 },
     /// A call was refused though another, later refusal was planted too.
     RefusedFirst { call: &'static str, number: u32, other: u32 },
+    /// A call was refused for a bad record, at the script's front or behind others.
+    BadRecord { call: &'static str, number: u32, behind: bool },
     /// A call was accepted at this level of protection and of WP.
     Level { call: &'static str, chip: u8, bp: u8, wp_high: bool },
     /// A taken frame was of this sort.
@@ -31,7 +33,9 @@ pub enum Met {
     /// A plan was of this sort.
     Plan { chip: u8, wp_high: bool, sort: PlanSort },
     /// A script that ran was of this sort.
-    Run { chip: u8, sort: RunSort },
+    Run { chip: u8, sort: ScriptSort },
+    /// A script that was found good was of this sort.
+    Survey { sort: ScriptSort },
     /// Time did this.
     Time { chip: u8, sort: TimeSort },
     /// The reader gave a record of this kind.
@@ -54,18 +58,24 @@ impl Counts {
         if outcome.number() == 0 {
             self.note_accepted(&item.case, outcome, buffer);
         } else {
-            self.note_refused(item, outcome.number());
+            self.note_refused(item, outcome);
         }
     }
 
-    fn note_refused(&mut self, item: &Item, number: u32) {
+    fn note_refused(&mut self, item: &Item, outcome: &Outcome) {
+        let number = outcome.number();
         let call = item.case.call();
         let chip = item.case.on().map_or(0, |on| known(on.state.chip));
         self.count(Met::Refused { call, chip, number });
         for other in item.planted.numbers() {
-            if rank(call, other) > rank(call, number) {
+            // Of two bad records the one that isn't told of stands behind the other.
+            let behind = other != number && rank(call, other) == rank(call, number);
+            if behind || rank(call, other) > rank(call, number) {
                 self.count(Met::RefusedFirst { call, number, other });
             }
+        }
+        if let Some(offset) = outcome.bad_record() {
+            self.count(Met::BadRecord { call, number, behind: offset > 0 });
         }
         if let (10, true, Some(on)) = (number, item.one_short, item.case.on()) {
             let (wp_high, sort) = (on.wp_high, PlanSort::OneByteShort);
@@ -94,8 +104,13 @@ impl Counts {
             }
             (Case::Run { on, script, .. }, Outcome::Ran(ran)) => {
                 let chip = on.state.chip;
-                for sort in sorts::of_run(script, ran) {
+                for sort in sorts::of_script(script, ran.microseconds) {
                     self.count(Met::Run { chip, sort });
+                }
+            }
+            (Case::Survey { script }, Outcome::Surveyed(surveyed)) => {
+                for sort in sorts::of_script(script, surveyed.microseconds) {
+                    self.count(Met::Survey { sort });
                 }
             }
             (Case::Wait { state, .. }, Outcome::Answer(answer)) => {
@@ -130,10 +145,12 @@ fn known(chip: u8) -> u8 {
     }
 }
 
-/// The place of a refusal in the order of checks: a script's output comes last.
+/// The place of a refusal in the order of checks: a script's output comes last, and of its records
+/// the first bad one decides.
 fn rank(call: &str, number: u32) -> u32 {
     match (call, number) {
-        ("run", 4) => 13,
+        ("run", 4) => *BAD_RECORD.end() + 1,
+        _ if BAD_RECORD.contains(&number) => *BAD_RECORD.start(),
         _ => number,
     }
 }

@@ -2,7 +2,7 @@
 
 use std::ops::Range;
 
-use model::{Kind, Ran, State, LONGEST_REGION, LONGEST_SCRIPT};
+use model::{Kind, State, LONGEST_REGION, LONGEST_SCRIPT};
 
 use crate::case::On;
 use crate::{first_protected, size, F25L008A, F25L05PA};
@@ -48,7 +48,7 @@ sorts!(PlanSort {
     ProtectedButUnchanged,
 });
 
-sorts!(RunSort { Empty, LongestScript, MicrosecondsOver32Bits });
+sorts!(ScriptSort { Empty, LongestScript, MicrosecondsOver32Bits });
 
 sorts!(TimeSort { AtRest, BusyGoesOn, BusyEnds, AaiStays, AaiEnds });
 
@@ -112,13 +112,13 @@ pub fn of_plan(
     ])
 }
 
-/// The sorts of a script that ran.
-pub fn of_run(script: &[u8], ran: &Ran) -> impl Iterator<Item = RunSort> {
-    let over = ran.microseconds > u64::from(u32::MAX);
+/// The sorts of a good script that waits so long.
+pub fn of_script(script: &[u8], microseconds: u64) -> impl Iterator<Item = ScriptSort> {
+    let over = microseconds > u64::from(u32::MAX);
     holding([
-        (script.is_empty(), RunSort::Empty),
-        (script.len() == LONGEST_SCRIPT, RunSort::LongestScript),
-        (over, RunSort::MicrosecondsOver32Bits),
+        (script.is_empty(), ScriptSort::Empty),
+        (script.len() == LONGEST_SCRIPT, ScriptSort::LongestScript),
+        (over, ScriptSort::MicrosecondsOver32Bits),
     ])
 }
 

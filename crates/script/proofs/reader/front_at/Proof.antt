@@ -15,11 +15,14 @@ returns c = let a = c .before .before .args in sym (ap (answer (a .offset)) (fro
 sub-if2 : tie.Need-sub-if2
 sub-if2 c = search needs
 
+refused-requires : tie.Need-refused-requires
+refused-requires c κs = search needs
+
 returns-2 : tie.Need-returns-2
 returns-2 c =
-    let a = c .before .before .before .args in
+    let a = c .before .before .before .before .args in
     let left = length-drop (a .offset) (a .script .now) in
-    sym (ap (answer (a .offset)) (front-short (drop (a .offset) (a .script .now)) (omega arith) (omega arith)))
+    c .refused .ensures ∙ sym (ap (answer (a .offset)) (front-short (drop (a .offset) (a .script .now)) (omega arith) (omega arith)))
 
 shared-slice-read-first : tie.Need-shared-slice-read-first
 shared-slice-read-first c = search needs
@@ -47,10 +50,14 @@ returns-4 c =
     let marked = front-wait (a .script .now) (a .offset) (omega arith) (c .before .before .if3 .left) (c .before .if4 .taken) in
     c .wait-at .ensures ∙ sym (ap (answer (a .offset)) marked)
 
+refused-requires-2 : tie.Need-refused-requires-2
+refused-requires-2 c κs = search needs
+
 returns-5 : tie.Need-returns-5
 returns-5 c =
-    let a = c .before .before .before .before .before .before .before .args in
-    sym (ap (answer (a .offset)) (front-unknown (a .script .now) (a .offset) (omega arith) (c .before .if3 .left) (c .if4 .left)))
+    let a = c .before .before .before .before .before .before .before .before .args in
+    c .refused2 .ensures
+    ∙ sym (ap (answer (a .offset)) (front-unknown (a .script .now) (a .offset) (omega arith) (c .before .before .if3 .left) (c .before .if4 .left)))
 
 pub front-at-spec : {M : Type 1} → statement M
 front-at-spec =
@@ -58,6 +65,7 @@ front-at-spec =
     (tie.spec
     returns
     sub-if2
+    refused-requires
     returns-2
     shared-slice-read-first
     add-second
@@ -66,4 +74,5 @@ front-at-spec =
     returns-3
     wait-at-requires
     returns-4
+    refused-requires-2
     returns-5)
