@@ -79,10 +79,14 @@ pub record Bad (script : List ℕ) (number : ℕ) : Type 0 where
   pub offset : ℕ
   pub first : FirstBad script offset number
 
--- what comes with a number: "the offset of the first bad record's mark", where it is 12, 13 or 14; "these three alone carry an offset", else it is 0 (ours)
+-- "These three alone carry an offset."
+abbrev pub Carries : ℕ → Type 0
+Carries number = (number ≡ 12) ⊎ (number ≡ 13) ⊎ (number ≡ 14)
+
+-- what comes with a number: with these three "the offset of the first bad record's mark", with any other 0 (ours)
 pub record Located (script : List ℕ) (number offset : ℕ) : Type 0 where
-  pub of-the-first : (number ≡ 12) ⊎ (number ≡ 13) ⊎ (number ≡ 14) → FirstBad script offset number
-  pub else-none : (number ≡ 12 → ⊥) → (number ≡ 13 → ⊥) → (number ≡ 14 → ⊥) → offset ≡ 0
+  pub of-the-first : Carries number → FirstBad script offset number
+  pub else-none : (Carries number → ⊥) → offset ≡ 0
 
 -- ---- a script looked through
 
@@ -97,14 +101,14 @@ pub record SurveyRules (script : List ℕ) : Type 0 where
   pub numbers : Numbered (surveyOf script .number) (11 when ScriptTooLong script ∷ 12 when Bad script 12 ∷ 13 when Bad script 13 ∷ 14 when Bad script 14 ∷ [])
   pub located : Located script (surveyOf script .number) (surveyOf script .offset)
   -- there is one first bad record, and it is told
-  pub first-told : (number offset : ℕ) → length script ≤ 32768 → (number ≡ 12) ⊎ (number ≡ 13) ⊎ (number ≡ 14) → FirstBad script offset number
+  pub first-told : (number offset : ℕ) → length script ≤ 32768 → Carries number → FirstBad script offset number
       → (surveyOf script .number ≡ number) × (surveyOf script .offset ≡ offset)
   -- "counts 0" (01, of a refusal)
   pub refusal-counts : 0 < surveyOf script .number
       → (surveyOf script .frames ≡ 0) × ((surveyOf script .microseconds ≡ 0) × (surveyOf script .output ≡ 0))
   pub counts : surveyOf script .number ≡ 0 → CountedScript script (surveyOf script .frames) (surveyOf script .microseconds) (surveyOf script .output)
   -- the reader says the same of the record there
-  pub read-there : (surveyOf script .number ≡ 12) ⊎ (surveyOf script .number ≡ 13) ⊎ (surveyOf script .number ≡ 14)
+  pub read-there : Carries (surveyOf script .number)
       → recordAt script (surveyOf script .offset) ≡ Refused (surveyOf script .number) (surveyOf script .offset)
   -- run, a script that is accepted here is refused for what is not in it alone
   pub then-run : (wp : Bool) (d : Device) (output : List ℕ) (ran : Ran) (after : Device) (outputAfter : List ℕ)

@@ -16,7 +16,7 @@ use Rattle.text.specs.Text.{digit, decimal, Numeral, valueOf}
 use Rattle.listing.specs.Listing.{listing}
 use Rattle.rules.specs.Power.{new05PA}
 use Rattle.rules.specs.Conditions.{ScriptTooLong}
-use Rattle.rules.specs.BadRecords.{FirstBad}
+use Rattle.rules.specs.BadRecords.{FirstBad, Carries}
 
 -- "a new, erased 05PA"
 unfoldable pub erased05PA : Device
@@ -65,17 +65,17 @@ pub record PlayRules (script : List ℕ) : Type 0 where
   -- "A refusal is one line: R, a space, the number."
   pub refused-11 : (output : List ℕ) → scriptNumber true script erased05PA output ≡ 11 → listing script ≡ 0x52 ∷ 0x20 ∷ 0x31 ∷ 0x31 ∷ 0x0a ∷ []
   -- 12, 13, 14 "with the offset of the first bad record's mark, which `play` prints as a third field, in decimal" (02, A1)
-  pub refused-bad : (number : ℕ) (output : List ℕ) → (number ≡ 12) ⊎ (number ≡ 13) ⊎ (number ≡ 14) → scriptNumber true script erased05PA output ≡ number
+  pub refused-bad : (number : ℕ) (output : List ℕ) → Carries number → scriptNumber true script erased05PA output ≡ number
       → listing script ≡ threeFields number (scriptOffset true script erased05PA output)
   pub in-decimal : (number : ℕ) → number < 100000 → InDecimal number (decimal number)
   -- and the call gives no other number where the outputs have their room
   pub room : List ℕ
   pub in-that-room : (scriptNumber true script erased05PA room ≡ 0) ⊎ (scriptNumber true script erased05PA room ≡ 11)
-      ⊎ (scriptNumber true script erased05PA room ≡ 12) ⊎ (scriptNumber true script erased05PA room ≡ 13) ⊎ (scriptNumber true script erased05PA room ≡ 14)
+      ⊎ Carries (scriptNumber true script erased05PA room)
   -- 11, "script over 32,768", whatever its bytes are
   pub too-long : ScriptTooLong script → listing script ≡ 0x52 ∷ 0x20 ∷ 0x31 ∷ 0x31 ∷ 0x0a ∷ []
   -- and of any other script with a bad record, the first one's number and offset
-  pub bad-record : (number offset : ℕ) → length script ≤ 32768 → (number ≡ 12) ⊎ (number ≡ 13) ⊎ (number ≡ 14) → FirstBad script offset number
+  pub bad-record : (number offset : ℕ) → length script ≤ 32768 → Carries number → FirstBad script offset number
       → listing script ≡ threeFields number offset
   -- "empty is a script": "S 00" alone
   pub empty : script ≡ [] → listing script ≡ 0x53 ∷ 0x20 ∷ 0x30 ∷ 0x30 ∷ 0x0a ∷ []

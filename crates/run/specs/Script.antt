@@ -16,12 +16,20 @@ use Rattle.frame.specs.Device.{Device}
 use Rattle.run.specs.declared.Ran.{Ran}
 use Rattle.run.specs.Run.{run, outputs}
 
--- the level of WP, the script, the chip and the lent output: "a script is checked 1, 2, 11, 12, 4", the 12 being its first bad record's 12, 13 or 14
-abbrev pub scriptRefusals : Bool → List ℕ → Device → List ℕ → List (ℕ × Bool)
-scriptRefusals wp script d output =
+-- of the chip: 1 and 2
+abbrev pub chipRefusals : Device → List (ℕ × Bool)
+chipRefusals d =
     (stateNotSound, not (isSound (d .state)))
     ∷ (wrongArray, not (eqb (length (d .array)) (dataOf (d .state) .size)))
-    ∷ (surveyRefusals script ++ ((wrongOutput, not (eqb (length output) (outputLength (recordsOf script)))) ∷ []))
+    ∷ []
+
+-- of the lent output, where it has to be so long: 4
+abbrev pub outputRefusals : List ℕ → ℕ → List (ℕ × Bool)
+outputRefusals output long = (wrongOutput, not (eqb (length output) long)) ∷ []
+
+-- the level of WP, the script, the chip and the lent output: "a script is checked 1, 2, 11, 12, 4", the 12 being its first bad record's 12, 13 or 14
+abbrev pub scriptRefusals : Bool → List ℕ → Device → List ℕ → List (ℕ × Bool)
+scriptRefusals wp script d output = chipRefusals d ++ (surveyRefusals script ++ outputRefusals output (outputLength (recordsOf script)))
 
 unfoldable pub scriptNumber : Bool → List ℕ → Device → List ℕ → ℕ
 scriptNumber wp script d output = firstOf (scriptRefusals wp script d output)

@@ -3,7 +3,7 @@
 use mathlib.Core.Path.{_≡_, refl, sym, ap, _∙_}
 use mathlib.Core.Bool.{true, false≢true, cond, not}
 use mathlib.Core.List.{List, [], _∷_, _++_, append-assoc}
-use mathlib.Core.Logic.{_⊎_, inl, inr, ⊎-elim}
+use mathlib.Core.Logic.{inl, inr, ⊎-elim}
 use Prim.Native.Nat.{ℕ, _≤_, _<_}
 use native.Mathlib.Omega.{arith}
 use lib.Dec.{eqb}
@@ -32,7 +32,7 @@ use Rattle.text.proofs.Laws.Decimal.{decimal-two, decimal-zero, decimal-digits,
 use Rattle.listing.specs.Listing.{new05pa, frameLines, statusLine, listing}
 use Rattle.listing.proofs.Laws.Frames.{lines-none, lines-frame, lines-wait}
 use Rattle.listing.proofs.Laws.Listing.{number-cases, listing-refused, listing-run, erased-is, new-ready, listing-empty, listing-long}
-use Rattle.rules.specs.BadRecords.{FirstBad}
+use Rattle.rules.specs.BadRecords.{FirstBad, Carries}
 use Rattle.rules.specs.Play.{erased05PA, inHex, InDecimal, threeFields, Printed, frame-line, no-line, status-line, Listed, PlayRules}
 use Rattle.rules.proofs.Laws.Power.{new-chips}
 use Rattle.rules.proofs.Laws.Running.{by-turns}
@@ -110,7 +110,7 @@ module _ (script : List ℕ) where
   bad-line t =
       listing-refused script (λ z. false≢true (rw z at t)) ∙ rw t (decimals-line-two 0x52 (surveyOf script .number) (surveyOf script .offset))
 
-  refused-bad : (number : ℕ) (output : List ℕ) → (number ≡ 12) ⊎ (number ≡ 13) ⊎ (number ≡ 14) → scriptNumber true script erased05PA output ≡ number
+  refused-bad : (number : ℕ) (output : List ℕ) → Carries number → scriptNumber true script erased05PA output ≡ number
       → listing script ≡ threeFields number (scriptOffset true script erased05PA output)
   refused-bad number output which e =
       let t : carriesOffset (scriptNumber true script erased05PA output) ≡ true = rw e (means-carried number .only-when which) in
@@ -119,7 +119,7 @@ module _ (script : List ℕ) where
       rw (sym e ∙ same, place) (bad-line (rw same at t))
 
   module _ (bytes : Bytes script) where
-    first-line : (number offset : ℕ) → length script ≤ longestScript → (number ≡ 12) ⊎ (number ≡ 13) ⊎ (number ≡ 14) → FirstBad script offset number
+    first-line : (number offset : ℕ) → length script ≤ longestScript → Carries number → FirstBad script offset number
         → listing script ≡ threeFields number offset
     first-line number offset short which first =
         let told = survey-rules script bytes .first-told number offset short which first in

@@ -155,7 +155,7 @@ module _ (wp : Bool) (script : List ℕ) (d : Device) (output : List ℕ) (bytes
         let number-is = carried-surveyed wp script d output t in
         let offset-is : scriptOffset wp script d output ≡ surveyOf script .offset = offset-surveyed wp script d output ∙ rw t refl in
         rw (number-is, offset-is) (survey-rules script bytes .located .of-the-first (rw number-is at e));
-    else-none = λ a b c. offset-only wp script d output (carries-none (scriptNumber wp script d output) a b c);
+    else-none = λ never. offset-only wp script d output (carries-none (scriptNumber wp script d output) never);
   }
 
   pub script-refusals : (ran : Ran) (after : Device) (outputAfter : List ℕ) (run : ScriptRun wp script d output ran after outputAfter)

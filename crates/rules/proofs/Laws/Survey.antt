@@ -1,9 +1,9 @@
 -- A script looked through: its number and offset in words, its counts, and what running it can be refused for.
 -- Assumes nothing.
 use mathlib.Core.Path.{_≡_, refl, ap, _∙_}
-use mathlib.Core.Bool.{Bool, true, false, false≢true, _||_, not}
-use mathlib.Core.List.{List, [], _∷_}
-use mathlib.Core.Logic.{_⊎_, inl, inr, ⊎-elim}
+use mathlib.Core.Bool.{Bool, true, false, false≢true, _||_}
+use mathlib.Core.List.{List, [], _∷_, _++_}
+use mathlib.Core.Logic.{inl, inr, ⊎-elim}
 use Prim.Native.Nat.{ℕ, _≤_}
 use native.Mathlib.Omega.{arith}
 use lib.Dec.{eqb}
@@ -11,8 +11,7 @@ use lib.ListN.{length}
 use borrow.Author.Tests.{not-false}
 use Rattle.common.specs.Bits.{Bytes}
 use Rattle.common.specs.Limits.{longestScript}
-use Rattle.common.specs.Refusals.{stateNotSound, wrongArray, wrongOutput, Exactly}
-use Rattle.state.specs.State.{dataOf}
+use Rattle.common.specs.Refusals.{Exactly}
 use Rattle.state.specs.Soundness.{isSound}
 use Rattle.script.specs.Decode.{Fault, unknownMark, wrongLength, cutShort, faultNumber}
 use Rattle.script.specs.declared.survey.Surveyed.{Surveyed}
@@ -22,11 +21,11 @@ use Rattle.script.proofs.Laws.Bad.{bad-at-read}
 use Rattle.script.proofs.Laws.Survey.{survey-short, survey-number, survey-whole, Blamed, survey-bad, survey-refused}
 use Rattle.frame.specs.Device.{Device}
 use Rattle.run.specs.declared.Ran.{Ran}
-use Rattle.run.specs.Script.{carriesOffset, ScriptRun}
+use Rattle.run.specs.Script.{chipRefusals, outputRefusals, carriesOffset, ScriptRun}
 use Rattle.run.proofs.Laws.Accepted.{survey-accepts, survey-located}
 use Rattle.rules.specs.Conditions.{NotSound, WrongArray}
 use Rattle.rules.specs.Numbered.{_when_, Numbered}
-use Rattle.rules.specs.BadRecords.{FirstBad, Located, CountedScript, SurveyRules}
+use Rattle.rules.specs.BadRecords.{FirstBad, Carries, Located, CountedScript, SurveyRules}
 use Rattle.rules.proofs.Laws.Tests.{off, means-equal, means-less, means-not, means-or}
 use Rattle.rules.proofs.Laws.Numbered.{row, numbered}
 use Rattle.rules.proofs.Laws.Conditions.{means-not-sound, means-wrong-array}
@@ -34,7 +33,7 @@ use Rattle.rules.proofs.Laws.Running.{counted}
 use Rattle.rules.proofs.Laws.BadRecords.{means-first, means-bad-mark, means-bad-length, means-bad-cut}
 
 -- 12, 13 and 14 alone carry an offset
-pub means-carried : (number : ℕ) → Exactly (carriesOffset number ≡ true) ((number ≡ 12) ⊎ (number ≡ 13) ⊎ (number ≡ 14))
+pub means-carried : (number : ℕ) → Exactly (carriesOffset number ≡ true) (Carries number)
 means-carried number =
     let two = means-or (eqb number 12) (eqb number 13) (means-equal number 12) (means-equal number 13) in
     let three = means-or (eqb number 12 || eqb number 13) (eqb number 14) two (means-equal number 14) in
@@ -43,12 +42,12 @@ means-carried number =
       only-when = λ e. three .only-when (⊎-elim (λ a. inl (inl a)) (⊎-elim (λ b. inl (inr b)) inr) e);
     }
 
-pub carries-none : (number : ℕ) → (number ≡ 12 → ⊥) → (number ≡ 13 → ⊥) → (number ≡ 14 → ⊥) → carriesOffset number ≡ false
-carries-none number a b c = off (carriesOffset number) (λ t. ⊎-elim a (⊎-elim b c) (means-carried number .when t))
+pub carries-none : (number : ℕ) → (Carries number → ⊥) → carriesOffset number ≡ false
+carries-none number never = off (carriesOffset number) (λ t. never (means-carried number .when t))
 
 module _ (script : List ℕ) (bytes : Bytes script) where
   -- one of the three: the script's first bad record is told
-  blamed : (surveyOf script .number ≡ 12) ⊎ (surveyOf script .number ≡ 13) ⊎ (surveyOf script .number ≡ 14) → Blamed script
+  blamed : Carries (surveyOf script .number) → Blamed script
   blamed e =
       let t = means-carried (surveyOf script .number) .only-when e in
       survey-bad script (λ z. false≢true (rw z at t)) (λ z. false≢true (rw z at t))
@@ -56,7 +55,7 @@ module _ (script : List ℕ) (bytes : Bytes script) where
   located : Located script (surveyOf script .number) (surveyOf script .offset)
   located = record {
     of-the-first = λ e. let b = blamed e in rw (b .survey-is) (means-first script bytes (b .fault) (b .offset) .when (b .decoded));
-    else-none = λ a b c. survey-located script ∙ rw (carries-none (surveyOf script .number) a b c) refl;
+    else-none = λ never. survey-located script ∙ rw (carries-none (surveyOf script .number) never) refl;
   }
 
   first-by : (fault : Fault) (offset : ℕ) → length script ≤ longestScript → FirstBad script offset (faultNumber fault)
@@ -65,7 +64,7 @@ module _ (script : List ℕ) (bytes : Bytes script) where
       let is = survey-short script short ∙ ap surveyed (means-first script bytes fault offset .only-when first) in
       (ap (λ (s : Surveyed). s .number) is, ap (λ (s : Surveyed). s .offset) is)
 
-  first-told : (number offset : ℕ) → length script ≤ longestScript → (number ≡ 12) ⊎ (number ≡ 13) ⊎ (number ≡ 14) → FirstBad script offset number
+  first-told : (number offset : ℕ) → length script ≤ longestScript → Carries number → FirstBad script offset number
       → (surveyOf script .number ≡ number) × (surveyOf script .offset ≡ offset)
   first-told number offset short =
       ⊎-elim (λ e. rw e (first-by unknownMark offset short))
@@ -82,19 +81,12 @@ module _ (script : List ℕ) (bytes : Bytes script) where
         output-is = refl;
       }
 
-  abbrev runRows : Device → List ℕ → List (ℕ × Bool)
-  runRows d output =
-      (stateNotSound, not (isSound (d .state)))
-      ∷ (wrongArray, not (eqb (length (d .array)) (dataOf (d .state) .size)))
-      ∷ (wrongOutput, not (eqb (length output) (surveyOf script .output)))
-      ∷ []
-
   then-run : (wp : Bool) (d : Device) (output : List ℕ) (ran : Ran) (after : Device) (outputAfter : List ℕ)
       → surveyOf script .number ≡ 0 → ScriptRun wp script d output ran after outputAfter
       → Numbered (ran .number)
       (1 when NotSound (d .state) ∷ 2 when WrongArray (d .state) (d .array) ∷ 4 when (length output ≡ surveyOf script .output → ⊥) ∷ [])
   then-run wp d output ran after outputAfter e run =
-      numbered (runRows d output) _ (ran .number) refl (run .number-is ∙ survey-accepts wp script d output e)
+      numbered (chipRefusals d ++ outputRefusals output (surveyOf script .output)) _ (ran .number) refl (run .number-is ∙ survey-accepts wp script d output e)
       (row (means-not-sound (d .state)) (λ _. refl)
       (λ sound. row (means-wrong-array (d .state) (not-false (isSound (d .state)) sound) (d .array)) (λ _. refl)
       (λ _. row (means-not (eqb (length output) (surveyOf script .output)) (means-equal (length output) (surveyOf script .output))) (λ _. refl) (λ _. tt))))

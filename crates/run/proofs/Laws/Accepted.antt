@@ -2,7 +2,7 @@
 -- Assumes nothing.
 use mathlib.Core.Path.{_≡_, refl, sym, ap, _∙_}
 use mathlib.Core.Bool.{Bool, true, false, true≢false, false≢true, cond, not}
-use mathlib.Core.List.{List, [], _∷_, _++_}
+use mathlib.Core.List.{List, _∷_, _++_}
 use Prim.Native.Nat.{ℕ, _≤_, _<_}
 use native.Mathlib.Omega.{arith}
 use lib.Dec.{eqb}
@@ -23,7 +23,7 @@ use Rattle.script.proofs.Laws.Records.{encoded-length}
 use Rattle.script.proofs.Laws.Decode.{decode-encode}
 use Rattle.script.proofs.Laws.Survey.{survey-short, survey-by, survey-number, survey-output}
 use Rattle.frame.specs.Device.{Device}
-use Rattle.run.specs.Script.{scriptRefusals, scriptNumber, ScriptAccepted, carriesOffset, scriptOffset}
+use Rattle.run.specs.Script.{chipRefusals, outputRefusals, scriptRefusals, scriptNumber, ScriptAccepted, carriesOffset, scriptOffset}
 
 -- the number of a bad record carries an offset
 pub fault-carries : (fault : Fault) → carriesOffset (faultNumber fault) ≡ true
@@ -86,10 +86,10 @@ module _ (wp : Bool) (script : List ℕ) (d : Device) (output : List ℕ) where
 
   -- the survey tells all but 1 and 2: its own number, then the output's length
   abbrev bySurvey : Surveyed → List (ℕ × Bool)
-  bySurvey survey = (survey .number, not (eqb (survey .number) 0)) ∷ (wrongOutput, not (eqb (length output) (survey .output))) ∷ []
+  bySurvey survey = (survey .number, not (eqb (survey .number) 0)) ∷ outputRefusals output (survey .output)
 
   abbrev last : List (ℕ × Bool)
-  last = (wrongOutput, not (eqb (length output) (outputLength (recordsOf script)))) ∷ []
+  last = outputRefusals output (outputLength (recordsOf script))
 
   behind-two : firstOf (surveyRefusals script ++ last) ≡ firstOf (bySurvey (surveyOf script))
   behind-two =
@@ -99,19 +99,13 @@ module _ (wp : Bool) (script : List ℕ) (d : Device) (output : List ℕ) where
       (λ t. let some = eqb-false (surveyOf script .number) 0 t in
       first-before (surveyRefusals script) last (surveyOf script .number) (omega (arith, some)) (sym (survey-number script)) ∙ rw t refl)
 
-  pub number-surveyed : scriptNumber wp script d output
-      ≡ firstOf ((stateNotSound, not (isSound (d .state))) ∷ (wrongArray, not (eqb (length (d .array)) (dataOf (d .state) .size))) ∷ bySurvey (surveyOf script))
+  pub number-surveyed : scriptNumber wp script d output ≡ firstOf (chipRefusals d ++ bySurvey (surveyOf script))
   unfolding scriptNumber
   number-surveyed = rw behind-two refl
 
   -- a script that the survey accepts is refused for the state, the array or the output's length alone: 1, 2 or 4
   pub survey-accepts : surveyOf script .number ≡ 0
-      → scriptNumber wp script d output
-      ≡ firstOf (
-      (stateNotSound, not (isSound (d .state)))
-      ∷ (wrongArray, not (eqb (length (d .array)) (dataOf (d .state) .size)))
-      ∷ (wrongOutput, not (eqb (length output) (surveyOf script .output)))
-      ∷ [])
+      → scriptNumber wp script d output ≡ firstOf (chipRefusals d ++ outputRefusals output (surveyOf script .output))
   survey-accepts e = number-surveyed ∙ rw e refl
 
   -- on a sound chip with an output as long as was counted, the number is the survey's
