@@ -6,7 +6,9 @@ pub mod Soundness
 pub mod Power
 pub mod Protection
 pub mod Time
+mod Kinds
 mod Does
+mod AtRest
 mod Armed
 pub mod Frames
 mod Rows
@@ -32,4 +34,6 @@ pub mod Survey
 pub mod Refusals
 pub mod Play
 pub mod Driver
+mod Erases
+pub mod Unread
 pub mod Demands

@@ -21,4 +21,5 @@ pub mod BadRecords
 pub mod Refusals
 pub mod Play
 pub mod Driver
+pub mod Unread
 pub mod Demands

@@ -1,8 +1,8 @@
 -- What every chip has in common: all that a proof may ask of a chip, of its data and of its instructions' kinds.
 -- A further chip is one more line of `models-regular`.
 -- Assumes nothing.
-use mathlib.Core.Path.{_≡_, refl, sym, _∙_}
-use mathlib.Core.Bool.{Bool, true, false, _&&_, not, false≢true, true≢false}
+use mathlib.Core.Path.{_≡_, refl, sym, ap, _∙_}
+use mathlib.Core.Bool.{Bool, true, false, _&&_, _||_, not, false≢true, true≢false}
 use mathlib.Core.List.{List, [], _∷_}
 use mathlib.Core.Logic.{_⊎_, inl, inr}
 use Prim.Native.Nat.{ℕ, _%_, _≤_, _<_}
@@ -10,7 +10,7 @@ use native.Mathlib.Omega.{arith}
 use lib.Dec.{eqb}
 use borrow.Author.Tests.{eq-eqb, eqb-true, not-true}
 use Rattle.common.specs.Lists.{Each}
-use Rattle.common.proofs.Laws.Booleans.{and-l, and-r, or-none-i}
+use Rattle.common.proofs.Laws.Booleans.{and-l, and-r, or-none-i, implies-elim}
 use Rattle.common.proofs.Laws.Choice.{cond-elim, cases}
 use Rattle.common.proofs.Laws.Pairs.{_▹_}
 use Rattle.chip.specs.declared.Chip.{Chip}
@@ -35,6 +35,8 @@ pub record Regular (chip : Chip) (kind : ℕ → ℕ) : Type 0 where
   pub aai-program-needs-aai : (op : ℕ) → kind op ≡ aaiProgram → chip .aai ≡ true
   pub ewsr-needs-ewsr : (op : ℕ) → kind op ≡ ewsr → chip .ewsr ≡ true
   pub power-down-needs-sleeps : (op : ℕ) → kind op ≡ deepPowerDown → chip .sleeps ≡ true
+  -- ---- WREN stands at 06 and nowhere else
+  pub wren-only-06 : (op : ℕ) → kind op ≡ wren → op ≡ 0x06
   -- ---- the opcodes that plans send
   pub wren-is-06 : kind 0x06 ≡ wren
   pub wrdi-is-04 : kind 0x04 ≡ wrdi
@@ -43,20 +45,29 @@ pub record Regular (chip : Chip) (kind : ℕ → ℕ) : Type 0 where
   pub aai-program-is-ad : chip .«word_plans» ≡ true → kind 0xad ≡ aaiProgram
   pub page-program-is-02 : chip .«word_plans» ≡ false → kind 0x02 ≡ pageProgram
 
--- ---- a kind that no instruction has
+-- ---- which opcodes have a kind
 
-abbrev lacks : List (ℕ × ℕ) → ℕ → Bool
-lacks [] kind = not (eqb unknown kind)
-lacks (i ∷ is) kind = not (eqb (i .1) kind) && lacks is kind
+-- every instruction whose kind passes a test has an opcode that passes another; an unknown one's passes none. Computed over a chip's instructions
+abbrev pub isConfined : (ℕ → Bool) → (ℕ → Bool) → List (ℕ × ℕ) → Bool
+isConfined kind allowed [] = not (kind unknown)
+isConfined kind allowed (i ∷ is) = (not (kind (i .1)) || allowed (i .0)) && isConfined kind allowed is
 
-differs : (found kind : ℕ) → not (eqb found kind) ≡ true → found ≡ kind → ⊥
-differs found kind e h = true≢false (sym (eq-eqb found kind h) ∙ not-true (eqb found kind) e)
+pub kind-confined : (kind allowed : ℕ → Bool) (is : List (ℕ × ℕ)) → isConfined kind allowed is ≡ true → (op : ℕ) → kind (kindIn is op) ≡ true → allowed op ≡ true
+kind-confined kind allowed [] all op = λ e. absurd (true≢false (sym e ∙ not-true (kind unknown) all))
+kind-confined kind allowed (i ∷ is) all op =
+    let here = and-l (not (kind (i .1)) || allowed (i .0)) (isConfined kind allowed is) all in
+    cond-elim (λ (found : ℕ). kind found ≡ true → allowed op ≡ true) (eqb op (i .0))
+    (λ t e. ap allowed (eqb-true op (i .0) t) ∙ implies-elim (kind (i .1)) (allowed (i .0)) here e)
+    (λ _. kind-confined kind allowed is (and-r (not (kind (i .1)) || allowed (i .0)) (isConfined kind allowed is) all) op)
 
-lacked : (is : List (ℕ × ℕ)) (kind : ℕ) → lacks is kind ≡ true → (op : ℕ) → kindIn is op ≡ kind → ⊥
-lacked [] kind e op = differs unknown kind e
-lacked (i ∷ is) kind e op =
-    cond-elim (λ (found : ℕ). found ≡ kind → ⊥) (eqb op (i .0)) (λ _. differs (i .1) kind (and-l (not (eqb (i .1) kind)) (lacks is kind) e))
-    (λ _. lacked is kind (and-r (not (eqb (i .1) kind)) (lacks is kind) e) op)
+-- a kind that no instruction has
+lacked : (is : List (ℕ × ℕ)) (kind : ℕ) → isConfined (λ found. eqb found kind) (λ op. false) is ≡ true → (op : ℕ) → kindIn is op ≡ kind → ⊥
+lacked is kind none op e = false≢true (kind-confined (λ found. eqb found kind) (λ op. false) is none op (eq-eqb (kindIn is op) kind e))
+
+-- and one that a single opcode has
+single : (is : List (ℕ × ℕ)) (kind only : ℕ) → isConfined (λ found. eqb found kind) (λ op. eqb op only) is ≡ true → (op : ℕ) → kindIn is op ≡ kind → op ≡ only
+single is kind only one op e =
+    eqb-true op only (kind-confined (λ found. eqb found kind) (λ op. eqb op only) is one op (eq-eqb (kindIn is op) kind e))
 
 -- ---- each model
 
@@ -76,6 +87,7 @@ regular-008a = record {
   aai-program-needs-aai = λ _ _. refl;
   ewsr-needs-ewsr = λ _ _. refl;
   power-down-needs-sleeps = λ op e. absurd (lacked instructions008A deepPowerDown refl op e);
+  wren-only-06 = single instructions008A wren 0x06 refl;
   wren-is-06 = refl;
   wrdi-is-04 = refl;
   wrsr-is-01 = refl;
@@ -97,6 +109,7 @@ regular-05pa = record {
   aai-program-needs-aai = λ op e. absurd (lacked instructions05PA aaiProgram refl op e);
   ewsr-needs-ewsr = λ op e. absurd (lacked instructions05PA ewsr refl op e);
   power-down-needs-sleeps = λ _ _. refl;
+  wren-only-06 = single instructions05PA wren 0x06 refl;
   wren-is-06 = refl;
   wrdi-is-04 = refl;
   wrsr-is-01 = refl;

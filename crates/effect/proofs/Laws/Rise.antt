@@ -1,12 +1,13 @@
 -- Programming turns no 0 into a 1, whole or cut.
 -- Assumes nothing.
 use mathlib.Core.List.{List}
-use Prim.Native.Nat.{ℕ}
+use Prim.Native.Nat.{ℕ, _-_, _%_}
+use lib.Dec.{leb}
 use Rattle.common.proofs.Laws.Bits.{NoRise, no-rise-refl, no-rise-and, no-rise-part, no-rise-or}
 use Rattle.common.proofs.Laws.Choice.{cond-elim}
 use Rattle.effect.specs.declared.Effect.{Effect}
 use Rattle.effect.specs.declared.Effect.the-variants.{Keep, Fill, Program, Round}
-use Rattle.effect.specs.Effect.{touches, struck, changed}
+use Rattle.effect.specs.Effect.{pageEffect, touches, struck, changed}
 use Rattle.effect.specs.Cut.{mixed, cut}
 
 -- the effect is no erase
@@ -15,6 +16,10 @@ NoErase Keep = Unit {0}
 NoErase (Fill a n) = ⊥
 NoErase (Program a n i) = Unit {0}
 NoErase (Round a n) = Unit {0}
+
+pub page-no-erase : (a n : ℕ) → NoErase (pageEffect a n)
+unfolding pageEffect
+page-no-erase a n = cond-elim NoErase (leb n (256 - a % 256)) (λ _. tt) (λ _. tt)
 
 pub mixed-no-rise : (mask old new : ℕ) → NoRise old new → NoRise old (mixed mask old new)
 unfolding mixed

@@ -13,6 +13,7 @@ use Rattle.common.specs.Lists.{mapi}
 use Rattle.common.proofs.Laws.Choice.{cases}
 use Rattle.common.proofs.Laws.Lists.{split, length-mapi, getD-mapi}
 use Rattle.state.specs.Protection.{firstProtected}
+use Rattle.state.specs.Soundness.{Sound}
 use Rattle.command.specs.Command.{commandOf}
 use Rattle.command.proofs.Laws.Fits.{fits}
 use Rattle.effect.specs.Effect.{changed}
@@ -36,25 +37,33 @@ each g l P same k step =
     ⊎-elim (λ b. rw (getD-mapi g l k 0 b) (step b))
     (λ b. rw (List·getD-eq-default l 0 b, List·getD-eq-default (mapi g l) 0 {n = k} (rw (length-mapi g l) b)) (same 0)) (split k (length l))
 
+-- ---- an accepted frame
+
+module _ (wp : Bool) (f : List ℕ) (d : Device) where
+  ran-each : (P : ℕ → ℕ → Type 0) → ((x : ℕ) → P x x) → (k : ℕ)
+      → P (getD (d .array) k 0) (changed (effectAt (d .state) wp f) f k (getD (d .array) k 0)) → P (getD (d .array) k 0) (getD (ranDevice wp f d .array) k 0)
+  unfolding ranDevice
+  ran-each P same k step = each (changed (effectAt (d .state) wp f) f) (d .array) P same k (λ _. step)
+
+  pub ran-array-protected : Sound (d .state) → (k : ℕ) → firstProtected (d .state) ≤ k → getD (ranDevice wp f d .array) k 0 ≡ getD (d .array) k 0
+  ran-array-protected sound k h =
+      ran-each (λ (x y : ℕ). y ≡ x) (λ x. refl) k
+      (changed-above (effectAt (d .state) wp f) f k (getD (d .array) k 0)
+      (le-trans (effect-free (d .state) (commandOf (d .state) wp f) (fits (d .state) wp f sound)) h))
+
+  pub ran-no-bit-rises : NoErase (effectAt (d .state) wp f) → (k : ℕ) → NoRise (getD (d .array) k 0) (getD (ranDevice wp f d .array) k 0)
+  ran-no-bit-rises p k = ran-each NoRise no-rise-refl k (changed-no-rise (effectAt (d .state) wp f) f k (getD (d .array) k 0) p)
+
 module _ (wp : Bool) (f : List ℕ) (d : Device) (output : List ℕ) where
   -- ---- run a frame
 
-  frame-each : (P : ℕ → ℕ → Type 0) → ((x : ℕ) → P x x) → (k : ℕ)
-      → (Accepted wp f d output → k < length (d .array) → P (getD (d .array) k 0) (changed (effectAt (d .state) wp f) f k (getD (d .array) k 0)))
-      → P (getD (d .array) k 0) (getD (frameDevice wp f d output .array) k 0)
-  unfolding ranDevice
-  frame-each P same k step =
-      frame-either wp f d output (λ (e : Device). P (getD (d .array) k 0) (getD (e .array) k 0)) (same _)
-      (λ a. each (changed (effectAt (d .state) wp f) f) (d .array) P same k (step a))
-
   pub frame-array-protected : (k : ℕ) → firstProtected (d .state) ≤ k → getD (frameDevice wp f d output .array) k 0 ≡ getD (d .array) k 0
   frame-array-protected k h =
-      frame-each (λ (x y : ℕ). y ≡ x) (λ x. refl) k
-      (λ a _. changed-above (effectAt (d .state) wp f) f k (getD (d .array) k 0)
-      (le-trans (effect-free (d .state) (commandOf (d .state) wp f) (fits (d .state) wp f (a .sound))) h))
+      frame-either wp f d output (λ (e : Device). getD (e .array) k 0 ≡ getD (d .array) k 0) refl (λ a. ran-array-protected wp f d (a .sound) k h)
 
   pub frame-no-bit-rises : NoErase (effectAt (d .state) wp f) → (k : ℕ) → NoRise (getD (d .array) k 0) (getD (frameDevice wp f d output .array) k 0)
-  frame-no-bit-rises p k = frame-each NoRise no-rise-refl k (λ _ _. changed-no-rise (effectAt (d .state) wp f) f k (getD (d .array) k 0) p)
+  frame-no-bit-rises p k =
+      frame-either wp f d output (λ (e : Device). NoRise (getD (d .array) k 0) (getD (e .array) k 0)) (no-rise-refl _) (λ _. ran-no-bit-rises wp f d p k)
 
   -- an accepted one
   frame-array-at : Accepted wp f d output → (k : ℕ) → k < length (d .array)

@@ -61,6 +61,7 @@ use Rattle.rules.proofs.Laws.BadRecords.{reader-refusals}
 use Rattle.rules.proofs.Laws.Survey.{survey-rules}
 use Rattle.rules.proofs.Laws.Play.{play-rules}
 use Rattle.rules.proofs.Laws.Driver.{no-cut-hurts}
+use Rattle.rules.proofs.Laws.Unread.{unread-rules}
 
 -- ---- demand 1
 
@@ -223,4 +224,5 @@ demands-met = record {
   scripts = scripts;
   cuts = no-cut-hurts;
   samples = samples-hold;
+  unread = unread-rules;
 }
