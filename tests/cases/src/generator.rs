@@ -233,11 +233,16 @@ impl Generator {
         let rng = &mut self.rng;
         let mut planted = Planted::default();
         let mut script = scripts::script(rng, chip);
-        let state = match rng.below(3) {
+        let mut state = match rng.below(3) {
             0 => states::sound(rng, chip),
             1 => self.walk[usize::from(chip != F25L008A)],
             _ => State { bp: 0, bpl: rng.one_in(4), ..states::at_rest(rng, chip) },
         };
+        if rng.one_in(5) {
+            // Nothing sets WEL, which is rare by chance.
+            state = states::disabled(state);
+            script = scripts::disabled(rng, &script);
+        }
         let mut on = On::new(state, rng.coin());
         let spoils = rng.one_in(3);
         if spoils {

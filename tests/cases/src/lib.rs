@@ -4,6 +4,7 @@ pub mod counts;
 pub mod literal;
 pub mod plans;
 pub mod states;
+pub mod unread;
 
 mod bad_records;
 mod board;

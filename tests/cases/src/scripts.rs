@@ -49,6 +49,20 @@ pub fn script(rng: &mut Rng, chip: u8) -> Vec<u8> {
     script
 }
 
+/// The same with nothing that sets WEL: a 06 is left out, or has a byte too many.
+pub fn disabled(rng: &mut Rng, script: &[u8]) -> Vec<u8> {
+    let mut disabled = Vec::new();
+    for record in records(script) {
+        match record {
+            [0x5A, 0x46, 0, 1, 0x06] if rng.one_in(4) => put_frame(&mut disabled, &[0x06, 0]),
+            [0x5A, 0x46, 0, 1, 0x06] => {}
+            _ => disabled.extend(record),
+        }
+    }
+    shorten(&mut disabled);
+    disabled
+}
+
 /// Leaves out the records that pass the longest script.
 fn shorten(script: &mut Vec<u8>) {
     if script.len() > LONGEST_SCRIPT {
@@ -89,6 +103,13 @@ fn phrase(rng: &mut Rng, chip: u8, script: &mut Vec<u8>) {
     }
 }
 
+/// A 06, now and then forgotten.
+fn enable(rng: &mut Rng, script: &mut Vec<u8>) {
+    if !rng.one_in(8) {
+        put_frame(script, &[0x06]);
+    }
+}
+
 /// Arming and a status write, now and then with something between.
 fn status_write(rng: &mut Rng, chip: u8, script: &mut Vec<u8>) {
     let arming = if chip == F25L008A { 0x50 } else { 0x06 };
@@ -103,7 +124,7 @@ fn status_write(rng: &mut Rng, chip: u8, script: &mut Vec<u8>) {
 fn program(rng: &mut Rng, chip: u8, script: &mut Vec<u8>) {
     let length = if chip == F25L008A { 5 } else { 4 + rng.between(1, 300) };
     let address = frames::address(rng, chip);
-    put_frame(script, &[0x06]);
+    enable(rng, script);
     put_frame(script, &frames::bytes(rng, 0x02, address, length, false));
     ready(rng, script);
 }
@@ -115,7 +136,7 @@ fn words(rng: &mut Rng, script: &mut Vec<u8>) {
         true => rng.pick(&BORDERS) - 2 * count - rng.below(4),
         false => frames::address(rng, F25L008A),
     };
-    put_frame(script, &[0x06]);
+    enable(rng, script);
     put_frame(script, &frames::bytes(rng, 0xAD, address, 6, false));
     ready(rng, script);
     for _ in 0..count {
@@ -129,7 +150,7 @@ fn words(rng: &mut Rng, script: &mut Vec<u8>) {
 
 fn erase(rng: &mut Rng, chip: u8, script: &mut Vec<u8>) {
     let address = frames::address(rng, chip);
-    put_frame(script, &[0x06]);
+    enable(rng, script);
     match rng.below(12) {
         0 => put_frame(script, &[rng.pick(&[0x60, 0xC7])]),
         1 | 2 => put_frame(script, &frames::bytes(rng, 0xD8, address, 4, false)),
@@ -170,6 +191,11 @@ pub fn boundaries(script: &[u8]) -> Vec<usize> {
         at = record.next;
         boundaries.push(at);
     }
+}
+
+/// The records before the first malformed one.
+pub fn records(script: &[u8]) -> Vec<&[u8]> {
+    boundaries(script).windows(2).map(|ends| &script[ends[0]..ends[1]]).collect()
 }
 
 /// The bytes of the frames before the first malformed record.

@@ -54,6 +54,11 @@ pub fn in_power_down(rng: &mut Rng) -> State {
     State { armed: false, power_down: true, ..at_rest(rng, F25L05PA) }
 }
 
+/// The same with nothing under way and WEL 0.
+pub fn disabled(state: State) -> State {
+    State { wel: false, aai: false, armed: false, left: 0, next: 0, ..state }
+}
+
 pub fn sound(rng: &mut Rng, chip: u8) -> State {
     match (rng.below(6), chip) {
         (0 | 1, _) => at_rest(rng, chip),

@@ -3,6 +3,7 @@
 use std::process::ExitCode;
 
 use cases::counts::{goals, Counts};
+use cases::unread::{Script, Unread};
 use cases::{explore, written_out, Item, Outcome};
 use zeradok::Library;
 
@@ -22,18 +23,38 @@ fn main() -> ExitCode {
         println!("cases written out that fail: {failing:?}");
     }
     let mut counts = Counts::default();
-    let note = |item: &Item, outcome: &Outcome, buffer: &[u8]| counts.note(item, outcome, buffer);
+    let mut scripts = Vec::new();
+    let note = |item: &Item, outcome: &Outcome, buffer: &[u8]| {
+        counts.note(item, outcome, buffer);
+        scripts.extend(Script::of(&item.case, outcome));
+    };
     if let Err(found) = explore::<Library>(seed, cases as usize, note) {
         let found = found.traced::<Library>();
         println!("seed {seed}, case {}, call {}", found.index, found.call);
         println!("{}\n\n{}", found.what, found.case());
         return ExitCode::FAILURE;
     }
-    if all_met(&counts) && failing.is_empty() {
+    let kept = nothing_turns_unread(&scripts, &mut counts);
+    if all_met(&counts) && kept && failing.is_empty() {
         ExitCode::SUCCESS
     } else {
         ExitCode::FAILURE
     }
+}
+
+/// Tries A14's clauses on the scripts that were accepted, states and arrays being the library's;
+/// prints the first script that breaks one.
+fn nothing_turns_unread(scripts: &[Script], counts: &mut Counts) -> bool {
+    let mut unread = Unread::new::<Library, Library>();
+    for script in scripts {
+        let found = unread.run(script);
+        counts.note_tested(script.state.chip, &found.tested);
+        if !found.is_good() {
+            println!("{found}\n{script}");
+            return false;
+        }
+    }
+    true
 }
 
 /// Prints what was met, and tells whether all was met often enough.

@@ -30,8 +30,16 @@ pub enum Fault {
     UnknownChipIs008a,
     /// Power-up refuses a state that isn't sound by number 2.
     UnsoundIsRefusal2,
+    /// A frame is taken while busy.
+    BusyNotAsked,
     /// A program or erase is taken with WEL 0.
     WelNotAsked,
+    /// The end of BUSY leaves WEL 1.
+    WelKept,
+    /// A 06 with more bytes is taken.
+    LongerEnableTaken,
+    /// Protection begins a sector above the first protected address.
+    FirstSectorUnprotected,
     /// BP2 protects the 05PA.
     Bp2Protects05pa,
     /// The 05PA loses its protection bits at power-off.

@@ -54,7 +54,8 @@ pub fn verdict<const FAULT: u8>(
     if kind == Kind::Unknown {
         return Err(Reason::UnknownOpcode);
     }
-    if state.left > 0 && kind != Kind::ReadStatus {
+    let busy = state.left > 0 && !Fault::BusyNotAsked.within(FAULT);
+    if busy && kind != Kind::ReadStatus {
         return Err(Reason::Busy);
     }
     let in_aai = matches!(kind, Kind::WordProgram | Kind::ReadStatus | Kind::WriteDisable);
@@ -64,7 +65,7 @@ pub fn verdict<const FAULT: u8>(
     if state.power_down && kind != Kind::Signature {
         return Err(Reason::InPowerDown);
     }
-    if !fits(chip, state, kind, frame.len()) {
+    if !fits::<FAULT>(chip, state, kind, frame.len()) {
         return Err(Reason::WrongLength);
     }
     match kind {
@@ -105,8 +106,9 @@ pub fn verdict<const FAULT: u8>(
     Ok(kind)
 }
 
-fn fits(chip: &Chip, state: &State, kind: Kind, length: usize) -> bool {
+fn fits<const FAULT: u8>(chip: &Chip, state: &State, kind: Kind, length: usize) -> bool {
     match kind {
+        Kind::WriteEnable if Fault::LongerEnableTaken.within(FAULT) => true,
         Kind::WriteEnable
         | Kind::WriteDisable
         | Kind::EnableStatusWrite

@@ -1,6 +1,6 @@
 //! Soundness, status, power and time (01, "State").
 
-use crate::chip::{Chip, WORD_TIME};
+use crate::chip::{Chip, SECTOR, WORD_TIME};
 use crate::fault::Fault;
 use crate::State;
 
@@ -39,7 +39,11 @@ impl State {
         if Fault::Bp2Protects05pa.within(FAULT) && chip.tb && self.bp >= 4 {
             return 0;
         }
-        chip.first_protected[usize::from(self.bp & 7)]
+        let first = chip.first_protected[usize::from(self.bp & 7)];
+        if Fault::FirstSectorUnprotected.within(FAULT) && first < chip.size as u32 {
+            return first + SECTOR as u32;
+        }
+        first
     }
 
     /// The chip, if the state is sound.
@@ -96,6 +100,6 @@ impl State {
             let wel = !Fault::WelClearedInAai.within(FAULT);
             return State { left, wel, ..*self };
         }
-        State { left, wel: false, aai: false, next: 0, ..*self }
+        State { left, wel: Fault::WelKept.within(FAULT), aai: false, next: 0, ..*self }
     }
 }

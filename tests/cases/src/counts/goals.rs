@@ -7,6 +7,7 @@ use model::{kind, Reason};
 use super::sorts::{FrameSort, PlanSort, ScriptSort, TimeSort};
 use super::Met;
 use crate::case::BAD_RECORD;
+use crate::unread::Clause;
 use crate::{frames, CHIPS, F25L008A, F25L05PA};
 
 /// Things of one kind, each of which has to be met at least so many times.
@@ -41,6 +42,7 @@ pub fn goals() -> Vec<Goals> {
         goal("sorts of runs and surveys", 50, script_sorts()),
         goal("sorts of waits", 50, time_sorts()),
         goal("kinds of records", 100, records()),
+        goal("clauses of A14 tested", 1_000, clauses()),
     ]
 }
 
@@ -216,4 +218,9 @@ fn time_sorts() -> Vec<Met> {
 
 fn records() -> Vec<Met> {
     [kind::FRAME, kind::WAIT, kind::END].map(|kind| Met::Record { kind }).into()
+}
+
+fn clauses() -> Vec<Met> {
+    let on_each = |clause| CHIPS.map(|chip| Met::Tested { chip, clause });
+    Clause::ALL.into_iter().flat_map(on_each).collect()
 }

@@ -9,6 +9,7 @@ use model::{Model, Reason, State};
 
 use crate::case::{Case, On, Outcome, BAD_RECORD};
 use crate::generator::Item;
+use crate::unread::Clause;
 use crate::CHIPS;
 pub use goals::{goals, Goals};
 use sorts::{FrameSort, PlanSort, ScriptSort, TimeSort};
@@ -40,6 +41,8 @@ pub enum Met {
     Time { chip: u8, sort: TimeSort },
     /// The reader gave a record of this kind.
     Record { kind: u32 },
+    /// A script put this clause of A14 to the test.
+    Tested { chip: u8, clause: Clause },
 }
 
 #[derive(Default)]
@@ -59,6 +62,13 @@ impl Counts {
             self.note_accepted(&item.case, outcome, buffer);
         } else {
             self.note_refused(item, outcome);
+        }
+    }
+
+    /// Counts the clauses that a script put to the test.
+    pub fn note_tested(&mut self, chip: u8, clauses: &[Clause]) {
+        for &clause in clauses {
+            self.count(Met::Tested { chip, clause });
         }
     }
 

@@ -1,0 +1,140 @@
+//! Nothing turns unread by itself (02, A14): the clauses, tried on accepted scripts. One party gives
+//! the states, and with them the premises, another the arrays: in a copy of the model that keeps
+//! WEL too long, WEL is 1 by its own states, and these would excuse all that it writes.
+
+mod array;
+mod clause;
+mod premises;
+mod script;
+mod tested;
+
+use std::fmt;
+
+use model::{Calls, Ran, State, LONGEST_SCRIPT};
+
+use crate::case::footprint;
+use crate::{scripts, size, CHIPS, F25L008A};
+use array::{Array, ByteChange, Change, Changed};
+pub use clause::{Breach, Clause, Extent};
+use premises::{Premises, Step};
+pub use script::Script;
+use tested::tested;
+
+/// Somebody's call that runs a script.
+type Run = fn(State, bool, &mut [u8], &[u8], &mut [u8]) -> Ran;
+
+/// Runs scripts, and tries the clauses on them.
+pub struct Unread {
+    /// Who gives the states, and an array for it: no state hangs on what that holds.
+    states: Run,
+    elsewhere: Vec<u8>,
+    /// Who gives the arrays, and the array of each chip.
+    arrays: Run,
+    chips: [Array; 2],
+    output: Vec<u8>,
+}
+
+/// What a script showed.
+pub struct Found {
+    /// The clauses that the whole script put to the test.
+    pub tested: Vec<Clause>,
+    pub breaches: Vec<Breach>,
+    /// Whether both parties have the same state before each record, and the script ends the same
+    /// run whole and record by record.
+    pub agrees: bool,
+}
+
+/// The state and the array in which a script ends.
+type End = (State, Vec<Changed>);
+
+impl Unread {
+    /// `S` gives the states, `A` the arrays.
+    pub fn new<S: Calls, A: Calls>() -> Self {
+        Self {
+            states: S::run,
+            elsewhere: vec![0xFF; size(F25L008A)],
+            arrays: A::run,
+            chips: CHIPS.map(|chip| Array::new(size(chip))),
+            output: vec![0; LONGEST_SCRIPT],
+        }
+    }
+
+    /// Runs a script, and tries the clauses on it and on its parts.
+    pub fn run(&mut self, script: &Script) -> Found {
+        let steps = self.steps(script);
+        let premises = steps.iter().fold(Premises::at(&script.state), Premises::and);
+        let (state, changed) = self.run_whole(script);
+        let tested = tested(&premises, &steps, script.wp_high, !changed.is_empty());
+        let mut found = Found { tested, breaches: Vec::new(), agrees: true };
+        let array = &self.chips[usize::from(script.state.chip != F25L008A)];
+        for stretch in &changed {
+            let change = array.change(stretch);
+            found.breaches.extend(change.breaches(&premises, Extent::Script));
+        }
+        let in_parts = self.run_in_parts(script, &steps, &mut found);
+        found.agrees &= in_parts == (state, changed);
+        found
+    }
+
+    /// The records of a script, each with the state before it.
+    fn steps<'a>(&mut self, script: &'a Script) -> Vec<Step<'a>> {
+        let array = &mut self.elsewhere[..size(script.state.chip)];
+        let mut state = script.state;
+        let step = |record| {
+            let step = Step { state, record };
+            let output = &mut self.output[..step.frame().len()];
+            state = (self.states)(state, script.wp_high, array, record, output).state;
+            step
+        };
+        scripts::records(&script.bytes).into_iter().map(step).collect()
+    }
+
+    fn run_whole(&mut self, script: &Script) -> End {
+        let array = &mut self.chips[usize::from(script.state.chip != F25L008A)];
+        let output = &mut self.output[..script.output];
+        let ran = (self.arrays)(script.state, script.wp_high, array.lent(), &script.bytes, output);
+        (ran.state, array.put_back())
+    }
+
+    /// The same record by record, with a look at where each can write. A part of a script is a
+    /// script too, from the chip behind the records before it.
+    fn run_in_parts(&mut self, script: &Script, steps: &[Step], found: &mut Found) -> End {
+        let array = &mut self.chips[usize::from(script.state.chip != F25L008A)];
+        let mut state = script.state;
+        let mut premises = Premises::at(&state);
+        for step in steps {
+            found.agrees &= state == step.state;
+            let [window, _] = footprint(&step.state, step.frame());
+            let before = array.lent()[window.clone()].to_vec();
+            let output = &mut self.output[..step.frame().len()];
+            state = (self.arrays)(state, script.wp_high, array.lent(), step.record, output).state;
+            premises = premises.of_parts(step);
+            if !window.is_empty() {
+                let after = &array.lent()[window.clone()];
+                let change = Change { from: window.start, before: &before, after };
+                found.breaches.extend(change.breaches(&premises, Extent::Part));
+            }
+        }
+        (state, array.put_back())
+    }
+}
+
+impl Found {
+    pub fn is_good(&self) -> bool {
+        self.breaches.is_empty() && self.agrees
+    }
+}
+
+/// What is bad.
+impl fmt::Display for Found {
+    fn fmt(&self, to: &mut fmt::Formatter<'_>) -> fmt::Result {
+        for Breach { clause, extent, byte } in &self.breaches {
+            let ByteChange { address, before, after } = byte;
+            writeln!(to, "{clause:?}, {extent:?}: at {address:#X} {before:#04X} to {after:#04X}")?;
+        }
+        if !self.agrees {
+            writeln!(to, "the states differ, or the ends of the script whole and in parts")?;
+        }
+        Ok(())
+    }
+}
