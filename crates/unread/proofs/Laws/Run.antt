@@ -71,17 +71,19 @@ module _ (wp : Bool) where
         rw (run-first wp r rs d)
         (then d (step wp r d) (run wp rs (step wp r d)) (one r d h (t .0)) (run-by rs (step wp r d) (step-sound r d h) (t .1)))
 
-  -- the chip before comes first
+  -- ---- the clauses
+
   module _ (rs : List Record) (d : Device) (h : Sound (d .state)) where
     pub run-no-rise : NoEraseTaken wp rs d → (k : ℕ) → NoRise (getD (d .array) k 0) (getD (run wp rs d .array) k 0)
     run-no-rise none k =
-        run-by (λ r e. isEraseTaken wp r e ≡ false) (λ x y. NoRise (getD (x .array) k 0) (getD (y .array) k 0)) (λ x. no-rise-refl (getD (x .array) k 0))
+        run-by _ (λ x y. NoRise (getD (x .array) k 0) (getD (y .array) k 0)) (λ x. no-rise-refl (getD (x .array) k 0))
         (λ x y z. no-rise-trans (getD (x .array) k 0) (getD (y .array) k 0) (getD (z .array) k 0)) (λ r e _. step-no-rise k r e) rs d h none
 
     pub run-protected : (k : ℕ) → AlwaysProtected k wp rs d → getD (run wp rs d .array) k 0 ≡ getD (d .array) k 0
     run-protected k always =
-        run-by (λ r e. firstProtected (e .state) ≤ k) (λ x y. getD (y .array) k 0 ≡ getD (x .array) k 0) (λ x. refl) (λ x y z p q. q ∙ p) (step-protected k) rs d h always
+        run-by _ (λ x y. getD (y .array) k 0 ≡ getD (x .array) k 0) (λ x. refl) (λ x y z p q. q ∙ p) (step-protected k) rs d h always
 
+  -- from the start on: no record but a 06 sets WEL
   disabled-throughout : (rs : List Record) (d : Device) → Sound (d .state) → d .state .wel ≡ false → NoWriteEnable rs → Throughout Disabled wp rs d
   disabled-throughout [] d h off none = tt
   disabled-throughout (r ∷ rs) d h off none =
@@ -89,7 +91,7 @@ module _ (wp : Bool) where
 
   pub run-off : (rs : List Record) (d : Device) → Sound (d .state) → d .state .wel ≡ false → NoWriteEnable rs → run wp rs d .array ≡ d .array
   run-off rs d h off none =
-      run-by Disabled (λ x y. y .array ≡ x .array) (λ x. refl) (λ x y z p q. q ∙ p) (λ r e s off. step-off r e s off .0) rs d h (disabled-throughout rs d h off none)
+      run-by _ (λ x y. y .array ≡ x .array) (λ x. refl) (λ x y z p q. q ∙ p) (λ r e s off. step-off r e s off .0) rs d h (disabled-throughout rs d h off none)
 
   pub run-unread : (rs : List Record) (d : Device) → Sound (d .state) → NothingTurnsUnread wp rs d (run wp rs d)
   run-unread rs d h = record {
