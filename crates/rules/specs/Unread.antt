@@ -15,13 +15,16 @@ use Rattle.unread.specs.Unread.{isEraseTaken, NothingTurnsUnread}
 use Rattle.rules.specs.Frames.{opcode, isResting, isAmong}
 use Rattle.rules.specs.Opcodes.{sizeOf, sectorIn, blockIn, isOpen}
 
--- "20, D8 | 4 | sector, block erase", "60, C7 | 1 | chip erase": at rest, with "WEL 1 and an unprotected target"
-abbrev pub isErasing : List ℕ → Device → Bool
-isErasing f d =
-    isResting (d .state)
-    && cond (isAmong (opcode f) (0x20 ∷ [])) (eqb (length f) 4 && isOpen d (sectorIn f d) 4096)
+-- "20, D8 | 4 | sector, block erase", "60, C7 | 1 | chip erase", and each needs "WEL 1 and an unprotected target"
+abbrev pub isEraseOpen : List ℕ → Device → Bool
+isEraseOpen f d =
+    cond (isAmong (opcode f) (0x20 ∷ [])) (eqb (length f) 4 && isOpen d (sectorIn f d) 4096)
     (cond (isAmong (opcode f) (0xd8 ∷ [])) (eqb (length f) 4 && isOpen d (blockIn f d) 65536)
     (isAmong (opcode f) (0x60 ∷ 0xc7 ∷ []) && (eqb (length f) 1 && isOpen d 0 (sizeOf d))))
+
+-- while busy, in AAI and in power-down no erase is taken
+abbrev pub isErasing : List ℕ → Device → Bool
+isErasing f d = isResting (d .state) && isEraseOpen f d
 
 pub record UnreadRules : Type 0 where
   -- the promise's "erase frame is taken", of an accepted frame; a wait is none

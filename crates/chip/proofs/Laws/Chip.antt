@@ -47,7 +47,7 @@ pub record Regular (chip : Chip) (kind : ℕ → ℕ) : Type 0 where
 
 -- ---- which opcodes have a kind
 
--- every instruction whose kind passes a test has an opcode that passes another; an unknown one's passes none. Computed over a chip's instructions
+-- every instruction whose kind passes a test has an opcode that passes another, and the unknown kind passes none: computed over a chip's instructions
 abbrev pub isConfined : (ℕ → Bool) → (ℕ → Bool) → List (ℕ × ℕ) → Bool
 isConfined kind allowed [] = not (kind unknown)
 isConfined kind allowed (i ∷ is) = (not (kind (i .1)) || allowed (i .0)) && isConfined kind allowed is

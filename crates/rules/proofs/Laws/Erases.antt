@@ -39,7 +39,7 @@ use Rattle.unread.specs.Unread.{isErase}
 use Rattle.unread.proofs.Laws.Run.{erase-told}
 use Rattle.rules.specs.Frames.{opcode, isAmong}
 use Rattle.rules.specs.Opcodes.{sizeOf, sectorIn, blockIn, isOpen}
-use Rattle.rules.specs.Unread.{isErasing}
+use Rattle.rules.specs.Unread.{isEraseOpen, isErasing}
 use Rattle.rules.proofs.Laws.Chips.{same-by-chip}
 use Rattle.rules.proofs.Laws.Kinds.{isExact, kind-exactly}
 use Rattle.rules.proofs.Laws.AtRest.{fails-when, at-rest-alone}
@@ -112,10 +112,7 @@ module _ {wp : Bool} {f : List ℕ} {d : Device} {output : List ℕ} (a : Accept
   open-is : (address n : ℕ) → writable s (address + n) ≡ isOpen d address n
   open-is address n = writable-is s f (address + n)
 
-  erases-at-rest : Resting s → isEraser (commandOf s wp f)
-      ≡ cond (isAmong (opcode f) (0x20 ∷ [])) (eqb (length f) 4 && isOpen d (sectorIn f d) 4096)
-      (cond (isAmong (opcode f) (0xd8 ∷ [])) (eqb (length f) 4 && isOpen d (blockIn f d) 65536)
-      (isAmong (opcode f) (0x60 ∷ 0xc7 ∷ []) && (eqb (length f) 1 && isOpen d 0 (sizeOf d))))
+  erases-at-rest : Resting s → isEraser (commandOf s wp f) ≡ isEraseOpen f d
   erases-at-rest r =
       ap isEraser (seen-at-rest s f wp r)
       ∙ erases-by-kind s wp f (kindOf (s .chip) (opcode f))
