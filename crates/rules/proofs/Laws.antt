@@ -36,4 +36,5 @@ pub mod Play
 pub mod Driver
 mod Erases
 pub mod Unread
+pub mod Worst
 pub mod Demands

@@ -1,4 +1,4 @@
--- Read this page first, from its last record up: what the user demands (00), in his words, the sample sessions (01), and a promise asked for since (02).
+-- Read this page first, from its last record up: what the user demands (00), in his words, the sample sessions (01), and what was asked for since (02).
 -- `demands-met` (proofs/Laws/Demands.antt) is a value of `Demands`, made of the theorems themselves: where one of them is lost or says less, that value
 -- no longer checks.
 use mathlib.Core.Path.{_≡_}
@@ -53,6 +53,7 @@ use Rattle.rules.specs.BadRecords.{ReaderRefusals, SurveyRules}
 use Rattle.rules.specs.Play.{PlayRules}
 use Rattle.rules.specs.Driver.{SentTo, CutAt}
 use Rattle.rules.specs.Unread.{UnreadRules}
+use Rattle.rules.specs.Worst.{WorstRules}
 
 -- ---- demand 1
 
@@ -184,5 +185,7 @@ pub record Demands : Type 0 where
       → NoCutHurts wp chip start wanted (length buffer) (take (planned .length) after)
   -- "The P sessions go into a single table with one proved statement over it."
   pub samples : Each Holds sessions
-  -- And, asked for since (02, A14): "Nothing turns unread by itself."
+  -- And, asked for since (02): (A14) "Nothing turns unread by itself."
   pub unread : UnreadRules
+  -- (A8) "How long can a save take?"
+  pub worst : WorstRules

@@ -22,4 +22,5 @@ pub mod Refusals
 pub mod Play
 pub mod Driver
 pub mod Unread
+pub mod Worst
 pub mod Demands

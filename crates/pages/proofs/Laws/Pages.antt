@@ -10,7 +10,7 @@ use lib.Dec.{ltb}
 use lib.ListN.{length}
 use borrow.Author.Tests.{lt-ltb}
 use Rattle.common.proofs.Laws.Lists.{split, length-tab}
-use Rattle.script.specs.Record.{Record, frame, wait, AllFit, scriptLength}
+use Rattle.script.specs.Record.{Record, frame, wait, AllFit}
 use Rattle.script.proofs.Laws.Records.{all-fit-append}
 use Rattle.script.proofs.Laws.Measure.{Counts, counts-none, counts-frame, counts-wait, counts-append, counts-as, measure-is}
 use Rattle.common.specs.Bits.{bit}
@@ -42,6 +42,14 @@ module _ (d : ℕ → Bool) (page : ℕ) where
   pub part-behind : (k : ℕ) → page + beforeFirst d 256 page + partLength d page ≤ k → k < page + 256 → d k ≡ false
   unfolding partLength
   part-behind k h l = last-false d 256 page k (omega arith) l
+
+  -- so a byte of the page that changes is in it
+  pub part-holds : (k : ℕ) → page ≤ k → k < page + 256 → d k ≡ true
+      → (page + beforeFirst d 256 page ≤ k) × (k < page + beforeFirst d 256 page + partLength d page)
+  part-holds k h l e = (
+    ⊎-elim (λ i. absurd (true≢false (sym e ∙ first-false d 256 page k h i))) (λ i. i) (split k (page + beforeFirst d 256 page)),
+    ⊎-elim (λ i. i) (λ i. absurd (true≢false (sym e ∙ part-behind k i l))) (split k (page + beforeFirst d 256 page + partLength d page)),
+  )
 
 module _ (w : ℕ → ℕ) (address : ℕ) where
   pub part-records-none : partRecords w address 0 ≡ []
@@ -132,9 +140,6 @@ module _ (w : ℕ → ℕ) (d : ℕ → Bool) where
   pages-step-fits (suc n) page =
       all-fit-append (part page) (pagesStep w d n (page + 256)) (part-fits w (page + beforeFirst d 256 page) (partLength d page) (omega (arith, part-within d page)))
       (pages-step-fits n (page + 256))
-
-  pub pages-step-le : (n page : ℕ) → scriptLength (pagesStep w d n page) ≤ 275 * n
-  pages-step-le n page = omega (arith, pages-counts n page, pages-le d n page, bytes-le d n page)
 
   -- nothing changes
   pub pages-step-none : (n page : ℕ) → ((k : ℕ) → d k ≡ false) → pagesStep w d n page ≡ []

@@ -1,5 +1,4 @@
--- The laws of a whole plan: what it measures, that its script is at most 26,672 bytes long and is read back as its records,
--- and that it is empty exactly where nothing changes.
+-- The laws of a whole plan: what it measures, that its script is read back as its records, and that it is empty exactly where nothing changes.
 -- Assumes nothing.
 use mathlib.Core.Path.{_≡_, refl, sym, ap, _∙_}
 use mathlib.Core.Bool.{Bool, true, false, true≢false}
@@ -8,18 +7,19 @@ use mathlib.Core.Logic.{⊎-elim}
 use Prim.Native.Nat.{ℕ, _+_, _≤_}
 use native.Mathlib.Omega.{arith}
 use lib.ListN.{length}
-use Rattle.common.specs.Limits.{longestWanted}
 use Rattle.common.proofs.Laws.Lists.{split}
 use Rattle.script.specs.Record.{Record, AllFit, encode, scriptLength}
 use Rattle.script.specs.Decode.{records, decode}
 use Rattle.script.proofs.Laws.Decode.{decode-encode}
-use Rattle.script.proofs.Laws.Records.{script-length-append, all-fit-append, encoded-length, encode-append}
+use Rattle.script.proofs.Laws.Records.{all-fit-append, encoded-length, encode-append}
 use Rattle.state.specs.declared.State.{State}
 use Rattle.state.specs.State.{dataOf}
 use Rattle.region.specs.Region.{changes}
 use Rattle.script.specs.Measure.{measureOf}
+use Rattle.script.specs.declared.measure.Measure.{Measure}
+use Rattle.script.proofs.Laws.Measure.{measured}
 use Rattle.region.proofs.Laws.Region.{changes-before, changes-behind}
-use Rattle.plan.proofs.Laws.Steps.{free-not-needed, status-fits, status-le, measure-status, program-fits, program-le, program-none, program-unchanged}
+use Rattle.plan.proofs.Laws.Steps.{free-not-needed, status-fits, measure-status, with-status-most, with-status-least, program-fits, program-none, program-unchanged}
 use Rattle.plan.specs.Plan.{stepOneNeeded, statusRecords, statusStep, programStep, planRecords, withStatusSteps}
 use Rattle.common.specs.Refusals.{Exactly}
 
@@ -58,16 +58,12 @@ module _ (s : State) (array : List ℕ) (start : ℕ) (wanted : List ℕ) where
   -- they have 22 bytes
   pub plan-length : (scriptLength programs ≤ length (encode (planRecords s array start wanted)))
       × (length (encode (planRecords s array start wanted)) ≤ scriptLength programs + 22)
-  unfolding planRecords
   plan-length =
       let whole = encoded-length (planRecords s array start wanted) in
-      let front = script-length-append (statusStep needed s 0) (programs ++ statusStep needed s (s .bp)) in
-      let rest = script-length-append programs (statusStep needed s (s .bp)) in
-      (omega arith, omega (arith, status-le s 0 needed, status-le s (s .bp) needed))
-
-  -- no plan is longer than a script can be
-  pub plan-le : length wanted ≤ longestWanted → length (encode (planRecords s array start wanted)) ≤ 26672
-  plan-le h = omega (arith, plan-length, program-le (dataOf s .«word_plans») array start wanted h)
+      let counted = measured (planRecords s array start wanted) .bytes in
+      let step = measured programs .bytes in
+      let same = ap (λ (m : Measure). m .length) plan-measure in
+      (omega (arith, with-status-least (measureOf programs) needed), omega (arith, with-status-most (measureOf programs) needed))
 
   -- every record of a plan fits a script
   pub plan-fits : AllFit (planRecords s array start wanted)

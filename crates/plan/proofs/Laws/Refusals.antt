@@ -8,11 +8,11 @@ use Prim.Native.Nat.{ℕ, _+_, _-_, _≤_, _<_}
 use native.Mathlib.Omega.{arith}
 use lib.Dec.{ltb, eqb}
 use lib.ListN.{length}
-use borrow.Author.Tests.{lt-ltb, le-ltb, eq-eqb, ltb-false, eqb-true, not-false}
+use borrow.Author.Tests.{lt-ltb, le-ltb, eq-eqb, ltb-true, ltb-false, eqb-true, not-false}
 use Rattle.common.specs.Refusals.{statusLocked, bufferTooShort, firstOf, Exactly}
 use Rattle.common.proofs.Laws.Booleans.{or-none-l, or-none-r}
 use Rattle.common.proofs.Laws.Lists.{split}
-use Rattle.common.proofs.Laws.Refusals.{Clear, clear, Given, given-exactly, first-behind, first-before}
+use Rattle.common.proofs.Laws.Refusals.{Clear, clear, first-of-clear, Given, given-exactly, first-behind, first-before}
 use Rattle.script.specs.Record.{encode}
 use Rattle.state.specs.declared.State.{State}
 use Rattle.state.specs.State.{dataOf}
@@ -75,6 +75,9 @@ module _ (s : State) (array : List ℕ) (start : ℕ) (wanted : List ℕ) where
   pub region-accepted : firstOf (regionRefusals s array start wanted) ≡ 0 → RegionAccepted s array start wanted
   region-accepted e = region-words (region-clear e)
 
+  pub accepted-region : RegionAccepted s array start wanted → firstOf (regionRefusals s array start wanted) ≡ 0
+  accepted-region a = first-of-clear (regionRefusals s array start wanted) (words-region a)
+
   -- a region that is not too large lies within the array of a chip
   pub region-inside : length array ≡ dataOf s .size → (ltb longestWanted (length wanted) || ltb (dataOf s .size) (start + length wanted)) ≡ false
       → Inside array start wanted
@@ -126,3 +129,12 @@ module _ (s : State) (array : List ℕ) (start : ℕ) (wanted : List ℕ) where
           writable = c .1 .1 .1 .1 .1 .0;
           roomy = ltb-false room (length (encode (planRecords s array start wanted))) (c .1 .1 .1 .1 .1 .1 .0);
         }
+
+    -- refused for the room: for nothing else
+    pub too-short-of : planRefusal s wp array start wanted room ≡ bufferTooShort
+        → RegionAccepted s array start wanted × (room < length (encode (planRecords s array start wanted)))
+    too-short-of e =
+        let g = refused-exactly bufferTooShort (omega arith) .when e in (
+          region-words (g .0, (g .1 .0, (g .1 .1 .0, (g .1 .1 .1 .0, (g .1 .1 .1 .1 .0, tt))))),
+          ltb-true room (length (encode (planRecords s array start wanted))) (g .1 .1 .1 .1 .1 .1),
+        )

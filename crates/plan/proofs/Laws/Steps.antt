@@ -14,19 +14,20 @@ use Rattle.common.proofs.Laws.Choice.{cases, cond-elim}
 use Rattle.common.proofs.Laws.Places.{within-bounds}
 use Rattle.common.specs.Limits.{longestScript, longestWanted}
 use Rattle.script.specs.Record.{Record, frame, AllFit, scriptLength}
-use Rattle.script.proofs.Laws.Records.{frames-bound}
 use Rattle.script.proofs.Laws.Measure.{Counts, counts-none, counts-frame, counts-append, counts-as, measure-is, measured}
 use Rattle.state.specs.declared.State.{State}
 use Rattle.state.specs.State.{dataOf}
 use Rattle.state.specs.Protection.{firstProtected}
 use Rattle.region.specs.Region.{wantedAt, changes}
-use Rattle.script.specs.Measure.{measureOf}
+use Rattle.script.specs.Measure.{measureOf, AtMost}
+use Rattle.script.specs.declared.measure.Measure.{Measure}
 use Rattle.region.proofs.Laws.Region.{change-in-region, any-false, any-none, changes-at}
 use Rattle.words.specs.Words.{wordsIn, stepTwo}
-use Rattle.words.proofs.Laws.Words.{words-step-fits, words-step-le, words-step-none, words-step-unchanged}
+use Rattle.words.proofs.Laws.Words.{words-step-fits, words-step-most, words-step-frames-or-time, words-step-none, words-step-unchanged}
 use Rattle.words.proofs.Laws.Fewer.{words-no-longer}
 use Rattle.pages.specs.Pages.{pagesIn, stepThree}
-use Rattle.pages.proofs.Laws.Pages.{pages-step-fits, pages-step-le, pages-step-none, pages-step-unchanged}
+use Rattle.pages.proofs.Laws.Pages.{pages-step-fits, pages-step-none, pages-step-unchanged}
+use Rattle.pages.proofs.Laws.Region.{pages-step-most}
 use Rattle.pages.proofs.Laws.Fewer.{pages-no-longer}
 use Rattle.plan.specs.Plan.{isProtectedChange, stepOneNeeded, statusByte, statusRecords, statusStep, programStep, withStatusSteps}
 
@@ -74,10 +75,6 @@ module _ (s : State) (bp : ℕ) where
   status-fits true = ((omega arith, omega arith), ((omega arith, omega arith), tt))
   status-fits false = tt
 
-  pub status-le : (needed : Bool) → scriptLength (statusStep needed s bp) ≤ 11
-  status-le true = omega (arith, status-counts)
-  status-le false = omega (arith, counts-none)
-
 -- what stands between them, and the whole
 pub measure-status : (needed : Bool) (s : State) (bp : ℕ) (rs : List Record)
     → measureOf (statusStep needed s 0 ++ (rs ++ statusStep needed s bp)) ≡ withStatusSteps needed (measureOf rs)
@@ -86,7 +83,45 @@ measure-status false s bp rs = rw (append-nil rs) refl
 measure-status true s bp rs =
     measure-is (counts-as (counts-append (status-counts s 0) (counts-append (measured rs) (status-counts s bp))) (omega arith) (omega arith) (omega arith))
 
+-- they add nothing, or 22 bytes and 4 frames
+module _ (m : Measure) where
+  abbrev withBoth : Measure
+  withBoth = record { length = m .length + 22; frames = m .frames + 4; microseconds = m .microseconds }
+
+  pub with-status-needed : withStatusSteps true m ≡ withBoth
+  unfolding withStatusSteps
+  with-status-needed = refl
+
+  pub with-status-most : (needed : Bool) → AtMost (withStatusSteps needed m) withBoth
+  unfolding withStatusSteps
+  with-status-most true = record { frames = omega arith; microseconds = omega arith; bytes = omega arith }
+  with-status-most false = record { frames = omega arith; microseconds = omega arith; bytes = omega arith }
+
+  pub with-status-least : (needed : Bool) → AtMost m (withStatusSteps needed m)
+  unfolding withStatusSteps
+  with-status-least true = record { frames = omega arith; microseconds = omega arith; bytes = omega arith }
+  with-status-least false = record { frames = omega arith; microseconds = omega arith; bytes = omega arith }
+
 -- ---- steps 2 and 3
+
+-- 4,096 bytes lie in 2,049 words and in 17 pages at most
+module _ (array : List ℕ) (start : ℕ) (wanted : List ℕ) (short : length wanted ≤ longestWanted) where
+  pub step-two-most : AtMost (measureOf (stepTwo array start wanted)) record { length = 26650; frames = 3075; microseconds = 14343 }
+  step-two-most =
+      let m = words-step-most (wantedAt start wanted) (changes array start wanted) (wordsIn start (length wanted)) (start / 2 * 2) in
+      let n : wordsIn start (length wanted) ≤ 2049 = omega arith in
+      record { frames = omega arith; microseconds = omega arith; bytes = omega arith }
+
+  pub step-two-frames-or-time : 7 * measureOf (stepTwo array start wanted) .frames + measureOf (stepTwo array start wanted) .microseconds ≤ 28700
+  step-two-frames-or-time =
+      let n : wordsIn start (length wanted) ≤ 2049 = omega arith in
+      omega (arith, words-step-frames-or-time (wantedAt start wanted) (changes array start wanted) (wordsIn start (length wanted)) (start / 2 * 2))
+
+  pub step-three-most : AtMost (measureOf (stepThree array start wanted)) record { length = 4419; frames = 34; microseconds = 25500 }
+  step-three-most =
+      let m = pages-step-most (changes array start wanted) start (length wanted) (change-in-region array start wanted) (wantedAt start wanted) (pagesIn start (length wanted)) (start / 256 * 256) in
+      let n : pagesIn start (length wanted) ≤ 17 = omega arith in
+      record { frames = omega arith; microseconds = omega arith; bytes = omega arith }
 
 module _ (words : Bool) (array : List ℕ) (start : ℕ) (wanted : List ℕ) where
   pub program-words : words ≡ true → programStep words array start wanted ≡ stepTwo array start wanted
@@ -101,19 +136,14 @@ module _ (words : Bool) (array : List ℕ) (start : ℕ) (wanted : List ℕ) whe
   unfolding programStep
   program-fits = cond-elim AllFit words (λ _. words-step-fits _ _ _ _) (λ _. pages-step-fits _ _ _ _)
 
-  pub program-le : length wanted ≤ longestWanted → scriptLength (programStep words array start wanted) ≤ 26650
-  unfolding programStep
-  program-le h =
-      cond-elim (λ (rs : List Record). scriptLength rs ≤ 26650) words
-      (λ _. let n : wordsIn start (length wanted) ≤ 2049 = omega arith in omega (arith, words-step-le (wantedAt start wanted) (changes array start wanted) (wordsIn start (length wanted)) (start / 2 * 2)))
-      (λ _. let n : pagesIn start (length wanted) ≤ 17 = omega arith in omega (arith, pages-step-le (wantedAt start wanted) (changes array start wanted) (pagesIn start (length wanted)) (start / 256 * 256)))
-
   -- so that the code's sums fit
   pub program-small : length wanted ≤ longestWanted
       → (measureOf (programStep words array start wanted) .length ≤ longestScript) × (measureOf (programStep words array start wanted) .frames ≤ longestScript)
+  unfolding programStep
   program-small h =
-      let m = measured (programStep words array start wanted) in
-      (omega (arith, m, program-le h), omega (arith, m, program-le h, frames-bound (programStep words array start wanted) program-fits))
+      cond-elim (λ (rs : List Record). (measureOf rs .length ≤ longestScript) × (measureOf rs .frames ≤ longestScript)) words
+      (λ _. let m = step-two-most array start wanted h in (omega arith, omega arith))
+      (λ _. let m = step-three-most array start wanted h in (omega arith, omega arith))
 
   pub program-none : ((k : ℕ) → changes array start wanted k ≡ false) → programStep words array start wanted ≡ []
   unfolding programStep

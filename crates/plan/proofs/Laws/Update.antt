@@ -9,7 +9,7 @@ use lib.ListN.{length}
 use borrow.Author.Tests.{ne-eqb}
 use Rattle.script.specs.Record.{Record, encode}
 use Rattle.script.proofs.Laws.Records.{encoded-length, encode-none}
-use Rattle.script.proofs.Laws.Measure.{counts-none, measured}
+use Rattle.script.proofs.Laws.Measure.{Counts, counts-none, measured}
 use Rattle.state.specs.declared.State.{State}
 use Rattle.script.specs.declared.measure.Measure.{Measure}
 use Rattle.common.specs.Buffer.{written}
@@ -62,6 +62,17 @@ module _ (s : State) (wp : Bool) (array : List ℕ) (start : ℕ) (wanted buffer
         frames = rw (given, q) (sym (counted .frames));
         microseconds = rw (given, q) (sym (counted .microseconds));
         buffer-after = rw given (w ∙ written-front (encode (planRecords s array start wanted)) buffer);
+      }
+
+  -- an accepted plan reports what its records amount to
+  pub plan-counts : (after : List ℕ) (r : Planned) → PlanUpdated s wp array start wanted buffer after r → r .number ≡ 0
+      → Counts (planRecords s array start wanted) (r .length) (r .frames) (r .microseconds)
+  plan-counts after r p e =
+      let given = plan-given (sym (p .number) ∙ e) in
+      record {
+        bytes = sym (encoded-length (planRecords s array start wanted)) ∙ sym (rw given at (p .length));
+        frames = sym (rw given at (p .frames));
+        microseconds = sym (rw given at (p .microseconds));
       }
 
   -- the statement determines the answer and the whole buffer

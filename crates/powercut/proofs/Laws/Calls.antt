@@ -35,9 +35,10 @@ use Rattle.plan.specs.declared.Planned.{Planned}
 use Rattle.plan.specs.Plan.{planRecords}
 use Rattle.plan.specs.Refusals.{planRefusal}
 use Rattle.plan.specs.Update.{givenRecords, PlanUpdated}
-use Rattle.plan.proofs.Laws.Plan.{plan-fits, plan-le}
+use Rattle.plan.proofs.Laws.Plan.{plan-fits}
 use Rattle.plan.proofs.Laws.Refusals.{accepted-of}
 use Rattle.plan.proofs.Laws.Update.{plan-given}
+use Rattle.worst.proofs.Laws.Worst.{plan-le}
 use Rattle.powercut.specs.PowerCut.{between, inside, during, Finished, PowerLost, RunAsPlanned}
 use Rattle.powercut.proofs.Laws.PowerCut.{power-cut-safe}
 

@@ -5,10 +5,11 @@ use mathlib.Core.Bool.{Bool, true, false}
 use mathlib.Core.List.{List, [], _∷_}
 use mathlib.Core.Logic.{_⊎_, inl, inr, ⊎-elim}
 use Prim.Native.Nat.{ℕ, _+_, _-_, _≤_}
+use native.Mathlib.Nat.{le-refl}
 use lib.ListN.{length, getD}
 use Rattle.common.proofs.Laws.Choice.{cases}
 use Rattle.state.specs.declared.State.{State}
-use Rattle.state.specs.State.{withWel, withArmed}
+use Rattle.state.specs.State.{dataOf, withWel, withArmed}
 use Rattle.script.specs.Record.{Record}
 use Rattle.common.specs.Bits.{Bytes, bitAt}
 use Rattle.frame.specs.Device.{Device}
@@ -17,6 +18,8 @@ use Rattle.plan.specs.declared.Planned.{Planned}
 use Rattle.plan.specs.Plan.{planRecords}
 use Rattle.plan.specs.Refusals.{planRefusal}
 use Rattle.plan.specs.Update.{PlanUpdated}
+use Rattle.worst.specs.Worst.{worstOf}
+use Rattle.worst.proofs.Laws.Worst.{accepted-in-worst}
 use Rattle.powercut.specs.PowerCut.{stateAfterPlan, Finished, PowerLost}
 use Rattle.powercut.specs.Promises.{Promises}
 use Rattle.powercut.proofs.Laws.PowerCut.{power-cut-safe}
@@ -59,3 +62,11 @@ pub planned-again : {wp : Bool} {chip : Device} {start : ℕ} {wanted : List ℕ
     → (cut : Device) → PowerLost wp chip start wanted cut → {buffer after : List ℕ} {planned : Planned}
     → PlanUpdated (cut .state) wp (cut .array) start wanted buffer after planned → room + 22 ≤ length buffer → planned .number ≡ 0
 planned-again p cut lost {buffer} plans enough = plans .number ∙ p .again cut lost (length buffer) enough
+
+-- and in one of the chip's worst case, however long the buffer was before: so the same one serves after every cut
+pub planned-again-in-worst : {wp : Bool} {chip : Device} {start : ℕ} {wanted : List ℕ} {room : ℕ} → Promises wp chip start wanted room
+    → (cut : Device) → PowerLost wp chip start wanted cut → {buffer after : List ℕ} {planned : Planned}
+    → PlanUpdated (cut .state) wp (cut .array) start wanted buffer after planned → worstOf (dataOf (cut .state)) .length ≤ length buffer → planned .number ≡ 0
+planned-again-in-worst {wp} {chip} {start} {wanted} {room} p cut lost {buffer} plans enough =
+    plans .number
+    ∙ accepted-in-worst (cut .state) wp (cut .array) start wanted (room + 22) (length buffer) (p .again cut lost (room + 22) (le-refl (room + 22))) enough

@@ -63,6 +63,11 @@ module _ (array : List ℕ) (start : ℕ) (wanted : List ℕ) (address : ℕ) wh
   unfolding changes
   changes-inside h l = rw (within-yes start (length wanted) address h (omega arith), wanted-inside start wanted address h l) refl
 
+  pub rises-inside : start ≤ address → address - start < length wanted
+      → rises array start wanted address ≡ not (eqb (bitAnd (getD array address 0) (getD wanted (address - start) 0)) (getD wanted (address - start) 0))
+  unfolding rises
+  rises-inside h l = rw (wanted-inside start wanted address h l) refl
+
 -- the i-th byte of the region
 module _ (array : List ℕ) (start : ℕ) (wanted : List ℕ) (i : ℕ) (h : i < length wanted) where
   here : start + i - start ≡ i
@@ -72,8 +77,7 @@ module _ (array : List ℕ) (start : ℕ) (wanted : List ℕ) (i : ℕ) (h : i <
   changes-at = rw here at (changes-inside array start wanted (start + i) (omega arith) (omega arith))
 
   pub rises-at : rises array start wanted (start + i) ≡ not (eqb (bitAnd (getD array (start + i) 0) (getD wanted i 0)) (getD wanted i 0))
-  unfolding rises
-  rises-at = rw (wanted-inside start wanted (start + i) (omega arith) (omega arith), here) refl
+  rises-at = rw here at (rises-inside array start wanted (start + i) (omega arith) (omega arith))
 
 -- what rises is said by what ANDing leaves
 pub rises-same : (now array : List ℕ) (start : ℕ) (wanted : List ℕ) (address : ℕ)

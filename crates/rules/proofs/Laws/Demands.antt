@@ -62,6 +62,7 @@ use Rattle.rules.proofs.Laws.Survey.{survey-rules}
 use Rattle.rules.proofs.Laws.Play.{play-rules}
 use Rattle.rules.proofs.Laws.Driver.{no-cut-hurts}
 use Rattle.rules.proofs.Laws.Unread.{unread-rules}
+use Rattle.rules.proofs.Laws.Worst.{worst-rules}
 
 -- ---- demand 1
 
@@ -225,4 +226,5 @@ demands-met = record {
   cuts = no-cut-hurts;
   samples = samples-hold;
   unread = unread-rules;
+  worst = worst-rules;
 }

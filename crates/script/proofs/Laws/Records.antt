@@ -3,7 +3,7 @@
 -- Assumes nothing.
 use mathlib.Core.Path.{_≡_, refl}
 use mathlib.Core.List.{List, [], _∷_, _++_, append-assoc}
-use Prim.Native.Nat.{ℕ, _+_, _*_, _/_, _%_, _≤_}
+use Prim.Native.Nat.{ℕ, _+_, _/_, _%_, _≤_}
 use native.Mathlib.Omega.{arith}
 use lib.ListN.{length, length-append}
 use Rattle.common.proofs.Laws.Each.{each-append, each-left, each-right}
@@ -88,12 +88,6 @@ pub encoded-length : (rs : List Record) → length (encode rs) ≡ scriptLength 
 unfolding encode scriptLength
 encoded-length [] = refl
 encoded-length (r ∷ rs) = omega (arith, length-append (encodeRecord r) (encode rs), encoded-record-length r, encoded-length rs)
-
-pub frames-bound : (rs : List Record) → AllFit rs → framesIn rs * 5 ≤ scriptLength rs
-unfolding framesIn scriptLength
-frames-bound [] a = omega arith
-frames-bound (frame bytes ∷ rs) a = omega (arith, a .0 .0, frames-bound rs (a .1))
-frames-bound (wait n ∷ rs) a = omega (arith, frames-bound rs (a .1))
 
 pub output-bound : (rs : List Record) → outputLength rs ≤ scriptLength rs
 unfolding outputLength scriptLength

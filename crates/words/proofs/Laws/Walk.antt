@@ -13,7 +13,7 @@ use Rattle.common.proofs.Laws.Flags.{flag-is}
 use Rattle.words.specs.Words.{wordChanges, wordsStep, wordsIn}
 use Rattle.words.specs.Walk.{wordRecords, words, wordCount, runCount}
 use Rattle.words.proofs.Laws.Runs.{words-are-runs}
-use Rattle.words.proofs.Laws.Words.{counts-le}
+use Rattle.words.proofs.Laws.Counts.{counts-le}
 
 -- how many words are left at an even address, before an end
 abbrev pub wordsLeft : ℕ → ℕ → ℕ

@@ -4,21 +4,22 @@ use mathlib.Core.Path.{_≡_, refl, ap, _∙_}
 use mathlib.Core.Bool.{Bool, true, false, not, _&&_}
 use mathlib.Core.List.{List, [], _∷_, _++_, append-nil}
 use mathlib.Core.Logic.{⊎-elim}
-use Prim.Native.Nat.{ℕ, zero, suc, _+_, _*_, _≤_, _<_}
+use Prim.Native.Nat.{ℕ, zero, suc, _+_, _*_, _/_, _≤_, _<_}
 use native.Mathlib.Omega.{arith}
 use lib.ListN.{length}
 use Rattle.common.proofs.Laws.Choice.{cases}
 use Rattle.common.proofs.Laws.Booleans.{or-none-l, or-none-r}
 use Rattle.common.proofs.Laws.Lists.{split}
-use Rattle.script.specs.Record.{Record, frame, wait, AllFit, scriptLength}
+use Rattle.script.specs.Record.{Record, frame, wait, AllFit}
 use Rattle.script.proofs.Laws.Records.{all-fit-append}
 use Rattle.script.proofs.Laws.Measure.{Counts, counts-none, counts-frame, counts-wait, counts-as, measure-is}
 use Rattle.common.specs.Bits.{bit}
 use Rattle.common.specs.Numbers.{addressBytes}
-use Rattle.script.specs.Measure.{measureOf}
+use Rattle.script.specs.Measure.{measureOf, AtMost}
 use Rattle.words.specs.Words.{wordBytes, wordChanges, wordsStep}
 use Rattle.words.specs.Walk.{wordRecords, words, wordCount, runCount}
 use Rattle.words.proofs.Laws.Runs.{words-are-runs}
+use Rattle.words.proofs.Laws.Counts.{counts-le, words-le, runs-le-words, Counted}
 
 -- ---- one word
 
@@ -108,19 +109,6 @@ module _ (w : ℕ → ℕ) (d : ℕ → Bool) where
       (λ q. let z : k ≡ address + 1 = omega arith in rw z (or-none-r (d address) (d (address + 1)) c)) (split k (address + 1)))
       (λ p. rest p (omega arith)) (split k (address + 2)))
 
--- at most all words change, and between two runs stands a word that does not
-begun-le : (changes running : Bool) → bit (changes && not running) 1 + bit running 1 ≤ 1
-begun-le true true = omega arith
-begun-le true false = omega arith
-begun-le false true = omega arith
-begun-le false false = omega arith
-
-pub counts-le : (d : ℕ → Bool) (running : Bool) (n address : ℕ) → wordCount d n address + runCount d running n address + bit running 1 ≤ n + 1
-unfolding wordCount runCount
-counts-le d running zero address = omega (arith, begun-le true running)
-counts-le d running (suc n) address =
-    omega (arith, counts-le d (wordChanges d address) n (address + 2), begun-le (wordChanges d address) running)
-
 -- ---- step 2
 
 module _ (w : ℕ → ℕ) (d : ℕ → Bool) (n address : ℕ) where
@@ -135,11 +123,23 @@ module _ (w : ℕ → ℕ) (d : ℕ → Bool) (n address : ℕ) where
   }
   words-step-measure = measure-is words-step-counts
 
+  pub words-step-counted : {words runs : ℕ} → Counted d false n address words runs
+      → measureOf (wordsStep w d n address) ≡ record { length = 13 * (words + runs); frames = words + 2 * runs; microseconds = 7 * words }
+  words-step-counted c = words-step-measure ∙ rw (c .words-are, c .runs-are) refl
+
+  pub words-step-most : AtMost (measureOf (wordsStep w d n address)) record { length = 13 * (n + 1); frames = 3 * (n + 1) / 2; microseconds = 7 * n }
+  words-step-most =
+      let both = counts-le d false n address in
+      let runs = runs-le-words d false n address in
+      let words = words-le d n address in
+      rw words-step-measure record { frames = omega arith; microseconds = omega arith; bytes = omega arith }
+
+  -- more frames are less time: a word that begins a run has more of them, and leaves room for fewer words
+  pub words-step-frames-or-time : 7 * measureOf (wordsStep w d n address) .frames + measureOf (wordsStep w d n address) .microseconds ≤ 14 * (n + 1)
+  words-step-frames-or-time = let both = counts-le d false n address in rw words-step-measure (omega arith)
+
   pub words-step-fits : AllFit (wordsStep w d n address)
   words-step-fits = rw (← words-are-runs w d n address) (words-fit w d false n address)
-
-  pub words-step-le : scriptLength (wordsStep w d n address) ≤ 13 * n + 13
-  words-step-le = omega (arith, words-step-counts, counts-le d false n address)
 
   pub words-step-none : ((k : ℕ) → d k ≡ false) → wordsStep w d n address ≡ []
   words-step-none h = rw (← words-are-runs w d n address) (words-none w d n address h)

@@ -1,0 +1,3 @@
+pub mod Worst
+pub mod Blank
+pub mod Reached
