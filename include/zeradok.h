@@ -19,8 +19,8 @@
  *  2. zeradok_read gives the records one by one, the first at offset 0 and each further at `next`, until kind 3, the end. Send each frame, its
  *     bytes between one select and deselect, and wait each wait, in this order;
  *  3. after a power cut power up (zeradok_cut_frame has done so) and plan the same bytes again, from the array as it is now and with 22 bytes
- *     more room: that is accepted. By then each bit of those bytes is as before or as wanted, and nothing else has moved. (The F25L05PA may
- *     stand unprotected.)
+ *     more room, or with ZERADOK_WORST_BYTES every time: that is accepted. By then each bit of those bytes is as before or as wanted, and
+ *     nothing else has moved. (The F25L05PA may stand unprotected.)
  * Beside a real chip the model gets each frame and wait too, so that state and array stay the chip's; after power-up the array is read back
  * (03). The waits are the sheets' typical times: wait on until bit 0 of the status (05) is 0. The F25L05PA's status write (01) takes no time
  * here but up to 15 ms there (40 ms below 2.7 V): wait for bit 0 behind it as well. A 05 between 06 or 50 and the 01 would spoil the 01.
@@ -37,6 +37,16 @@
 #ifdef __cplusplus
 extern "C" {
 #endif
+
+/* The worst case of an accepted plan. None is above it, and each number is reached: on the F25L05PA all by one plan, on the F25L008A the bytes with
+ * the frames or with the microseconds.
+ *               bytes   frames   microseconds
+ *   F25L008A   26,672    3,079         14,343
+ *   F25L05PA    4,441       38         25,500
+ * Over both chips: */
+#define ZERADOK_WORST_BYTES 26672        /* a buffer of so many is never too short (refusal 10), nor is it for planning again after a cut */
+#define ZERADOK_WORST_FRAMES 3079        /* sent one by one: what a progress bar counts to */
+#define ZERADOK_WORST_MICROSECONDS 25500 /* waited in all: what a spinner is up for, beside the sending and what a chip takes over its typical times */
 
 /* chip: 8 or 5; bp: BP2 BP1 BP0 as a number; armed: a status write may come next; left: microseconds until BUSY falls; next: AAI's next address. */
 typedef struct { uint8_t chip, bp; bool tb, bpl, wel, aai, armed, power_down; uint32_t left, next; } zeradok_state;
@@ -82,7 +92,7 @@ uint32_t zeradok_cut_frame(zeradok_state *chip, bool wp_high, uint8_t *array, si
  * 7 not at rest: wait while busy, end AAI by 04, power-down by AB;
  * 8 a wanted 1 where the array has 0: only an erase brings a 1 back, so give up that bit;
  * 9 protected with BPL 1 and WP low: set WP high;
- * 10 the buffer is too short: give more room. After a cut 22 bytes more are enough; for any plan 26,672 are. */
+ * 10 the buffer is too short: give more room. After a cut 22 bytes more are enough; for any plan ZERADOK_WORST_BYTES are. */
 zeradok_planned zeradok_plan(zeradok_state chip, bool wp_high, const uint8_t *array, size_t array_length, size_t start,
                              const uint8_t *wanted, size_t wanted_length, uint8_t *buffer, size_t buffer_length);
 

@@ -4,6 +4,11 @@
 //! Take it as a module, `#[path = "..."] mod zeradok;`, and link `target/staticlib/libhost.a`.
 #![allow(dead_code)] // it offers more than one program needs
 
+/// No accepted plan is above these, on either chip; by chip they stand in `zeradok.h`.
+pub const WORST_BYTES: usize = 26_672;
+pub const WORST_FRAMES: u32 = 3_079;
+pub const WORST_MICROSECONDS: u32 = 25_500;
+
 /// A C `bool` as it stands in memory: that the library gives back 0 or 1 is checked, not believed.
 #[repr(transparent)]
 #[derive(Clone, Copy, Debug, PartialEq, Eq)]

@@ -8,7 +8,7 @@
 #include "zeradok.h"
 
 #define MUST(holds) ((holds) ? (void)0 : (fprintf(stderr, "save: this must hold: %s\n", #holds), exit(1)))
-enum { SIZE = 1048576, FLAGS = 64, WAIT = 2, END = 3, WANTS_A_ONE = 8, ROOM_TOO_SHORT = 10 };
+enum { SIZE = 1048576, FLAGS = 64, WAIT = 2, END = 3, WANTS_A_ONE = 8 };
 
 static zeradok_state chip;      /* what the chip is doing */
 static uint8_t array[SIZE];     /* what it holds; of a real chip: what a read (03) of all of it shows after power-up */
@@ -47,16 +47,12 @@ static bool send_script(const uint8_t *script, size_t length)
  * nothing to do but to plan again. The answer: 0, or the refusal that the game has to meet. */
 static uint32_t save(void)
 {
-    for (size_t room = 39;;) { /* one word that changes takes 26 bytes, a neighbour 13 more */
-        uint8_t *script = (uint8_t *)malloc(room);
-        MUST(script != NULL);
-        zeradok_planned plan = zeradok_plan(chip, true, array, SIZE, 0, wanted, FLAGS, script, room);
-        printf("room %zu: number %u, %u bytes, %u frames\n", room, plan.number, plan.length, plan.frames);
-        bool sent = send_script(script, plan.length); /* of a refused plan: nothing */
-        free(script);
-        if (plan.number == ROOM_TOO_SHORT) room += 22; /* after a cut that is always enough */
-        else if (sent) return plan.number;
-        else puts("the power went and is back");
+    static uint8_t script[ZERADOK_WORST_BYTES]; /* no plan is longer, so refusal 10 is never met */
+    for (;;) {
+        zeradok_planned plan = zeradok_plan(chip, true, array, SIZE, 0, wanted, FLAGS, script, sizeof script);
+        printf("number %u, %u bytes, %u frames, %u microseconds\n", plan.number, plan.length, plan.frames, plan.microseconds);
+        if (send_script(script, plan.length)) return plan.number; /* of a refused plan: nothing */
+        puts("the power went and is back");
     }
 }
 

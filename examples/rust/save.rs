@@ -8,7 +8,6 @@ use std::{env, fs, io::ErrorKind};
 const WAIT: u32 = 2;
 const END: u32 = 3;
 const WANTS_A_ONE: u32 = 8;
-const ROOM_TOO_SHORT: u32 = 10;
 
 struct Cartridge {
     chip: zeradok::State,
@@ -46,17 +45,15 @@ impl Cartridge {
 
     /// Makes the flags, 64 bytes, as wanted. The answer: 0, or the refusal that the game has to meet.
     fn save(&mut self, wanted: &[u8]) -> u32 {
-        let mut room = 39;
+        let mut script = [0; zeradok::WORST_BYTES]; // no plan is longer, so refusal 10 is never met
         loop {
-            let mut script = vec![0; room];
             let plan = zeradok::plan(self.chip, true, &self.array, 0, &wanted[..64], &mut script);
-            let (number, length, frames) = (plan.number, plan.length as usize, plan.frames);
-            println!("room {room}: number {number}, {length} bytes, {frames} frames");
-            match (number, self.send_script(&script[..length])) {
-                (ROOM_TOO_SHORT, _) => room += 22, // after a cut that is always enough
-                (_, true) => return number,
-                (_, false) => println!("the power went and is back"),
+            let zeradok::Planned { number, length, frames, microseconds, .. } = plan;
+            println!("number {number}, {length} bytes, {frames} frames, {microseconds} microseconds");
+            if self.send_script(&script[..length as usize]) {
+                return number;
             }
+            println!("the power went and is back");
         }
     }
 }

@@ -1,5 +1,5 @@
-/* The structs of include/zeradok.h lie in memory as the library has them, in C and in C++: it is compiled and never run.
- * tests/zeradok/src/layout.rs says the same of the Rust binding. */
+/* The structs of include/zeradok.h lie in memory as the library has them, and its numbers of the worst case are those of 02 (A8), in C and in C++:
+ * it is compiled and never run. tests/zeradok/src/layout.rs says the same of the Rust binding. */
 #include "zeradok.h"
 
 #include <assert.h>
@@ -51,3 +51,7 @@ FIELD(zeradok_record, start, 8);
 FIELD(zeradok_record, length, 16);
 FIELD(zeradok_record, microseconds, 24);
 FIELD(zeradok_record, next, 32);
+
+static_assert(ZERADOK_WORST_BYTES == 26672, "ZERADOK_WORST_BYTES");
+static_assert(ZERADOK_WORST_FRAMES == 3079, "ZERADOK_WORST_FRAMES");
+static_assert(ZERADOK_WORST_MICROSECONDS == 25500, "ZERADOK_WORST_MICROSECONDS");

@@ -1,6 +1,6 @@
 #!/usr/bin/env bash
-# The C interface from C: how the structs lie in memory, in C and in C++, and the sample sessions over the library as it was built.
-# The last line counts the three, and the exit is non-zero where one fails.
+# The C interface from C: how the structs lie in memory and the numbers of the worst case, in C and in C++, and the sample sessions over the library
+# as it was built. The last line counts the three, and the exit is non-zero where one fails.
 set -uo pipefail
 cd "$(dirname "$0")/../.." || exit 1
 strict=(-Wall -Wextra -Werror -pedantic -I include)

@@ -5,6 +5,7 @@ pub mod literal;
 pub mod plans;
 pub mod states;
 pub mod unread;
+pub mod worst;
 
 mod bad_records;
 mod board;
@@ -38,13 +39,14 @@ pub const CHIPS: [u8; 2] = [F25L008A, F25L05PA];
 pub const BORDERS: [usize; 5] = [0x08_0000, 0x0C_0000, 0x0E_0000, 0x0F_0000, 0x10_0000];
 
 /// The names of the cases written out, with their answers, that fail: 01's samples, the levels of
-/// protection, bad records and surveys.
+/// protection, bad records, surveys and the plans of the worst case.
 pub fn written_out<C: Calls>() -> Vec<String> {
     [
         samples::failing::<C>(),
         levels::failing::<C>(),
         bad_records::failing::<C>(),
         surveys::failing::<C>(),
+        worst::failing::<C>(),
     ]
     .concat()
 }

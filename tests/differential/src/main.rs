@@ -4,11 +4,23 @@ use std::process::ExitCode;
 
 use cases::counts::{goals, Counts};
 use cases::unread::{Script, Unread};
-use cases::{explore, written_out, Item, Outcome};
-use zeradok::Library;
+use cases::worst::{Amounts, Planner};
+use cases::{explore, written_out, Item, Outcome, CHIPS};
+use zeradok::{Library, WORST_BYTES, WORST_FRAMES, WORST_MICROSECONDS};
 
 const SEED: u64 = 1;
 const CASES: usize = 400_000;
+/// How many plans have to be accepted on each chip, and how many may be asked for.
+const PLANS: usize = 100_000;
+const MOST_ASKED: usize = 2 * PLANS;
+
+// The binding has the greatest of both chips' limits.
+const _: () = {
+    let Amounts { bytes, frames, microseconds } = Amounts::WORST;
+    assert!(WORST_BYTES == bytes as usize);
+    assert!(WORST_FRAMES == frames);
+    assert!(WORST_MICROSECONDS == microseconds);
+};
 
 fn main() -> ExitCode {
     let mut arguments = std::env::args().skip(1).map(|text| text.parse::<u64>());
@@ -34,8 +46,9 @@ fn main() -> ExitCode {
         println!("{}\n\n{}", found.what, found.case());
         return ExitCode::FAILURE;
     }
-    let kept = nothing_turns_unread(&scripts, &mut counts);
-    if all_met(&counts) && kept && failing.is_empty() {
+    let unread = nothing_turns_unread(&scripts, &mut counts);
+    let limited = CHIPS.map(|chip| keeps_limits(chip, seed, &mut counts)) == [true; 2];
+    if all_met(&counts) && unread && limited && failing.is_empty() {
         ExitCode::SUCCESS
     } else {
         ExitCode::FAILURE
@@ -55,6 +68,30 @@ fn nothing_turns_unread(scripts: &[Script], counts: &mut Counts) -> bool {
         }
     }
     true
+}
+
+/// Whether the library's plans keep A8's limits; prints the most that they came to, or the first
+/// that doesn't.
+fn keeps_limits(chip: u8, seed: u64, counts: &mut Counts) -> bool {
+    let mut planner = Planner::<Library>::new(chip, seed);
+    let mut greatest = Amounts::default();
+    let mut accepted = 0;
+    for _ in 0..MOST_ASKED {
+        let (save, found) = planner.plan();
+        if !found.breaches.is_empty() {
+            println!("chip {chip}: {found}\n{}", planner.text(&save));
+            return false;
+        }
+        counts.note_save(chip, &found);
+        greatest = greatest.or_greater(found.amounts);
+        accepted += usize::from(found.number == 0);
+        if accepted == PLANS {
+            println!("chip {chip}, {PLANS} plans: at most {greatest}");
+            return true;
+        }
+    }
+    println!("chip {chip}: only {accepted} plans accepted of {MOST_ASKED}");
+    false
 }
 
 /// Prints what was met, and tells whether all was met often enough.

@@ -92,6 +92,20 @@ pub enum Fault {
     OffsetWithOutput,
     /// A survey that is refused counts the records before the bad one.
     RefusedSurveyCounts,
+
+    // Of what a plan comes to (02, A8).
+    /// A plan's frames are counted without those of steps 1 and 4.
+    StepsNotCounted,
+    /// Every word is a run of its own.
+    RunNeverContinued,
+    /// A word waits its time for each of its two bytes.
+    WordWaitsTwice,
+    /// A page is sent whole, with FF for the bytes outside the region.
+    WholePageSent,
+    /// Changing bytes of a page with others between them are sent one stretch after another.
+    StretchesSentApart,
+    /// Steps 1 and 4 stand around every page.
+    PagesUnprotectedApart,
 }
 
 impl Fault {

@@ -8,6 +8,7 @@ mod chip;
 mod effect;
 mod fault;
 mod frame;
+mod pages;
 mod plan;
 mod reader;
 mod records;

@@ -2,6 +2,7 @@
 
 use crate::chip::{Chip, PAGE};
 use crate::fault::Fault;
+use crate::pages::{last_change, Page};
 use crate::records::{Records, Totals, Writer};
 use crate::state::refusal;
 use crate::words::{Runs, Word};
@@ -66,6 +67,9 @@ pub fn plan<const FAULT: u8>(
         return Err(refusal::ROOM);
     }
     update.records::<FAULT>(&mut Writer(buffer));
+    if Fault::StepsNotCounted.within(FAULT) && unprotects {
+        totals.frames -= 4;
+    }
     Ok(Planned {
         number: 0,
         state,
@@ -80,16 +84,27 @@ impl Update<'_> {
         if self.old == self.wanted {
             return;
         }
-        let State { bp, tb, bpl, .. } = self.state;
-        if self.unprotects {
-            self.status_write(State { bp: 0, tb, bpl, ..State::default() }, to);
-        }
+        self.unprotect(to);
         if self.chip.aai {
             self.word_runs::<FAULT>(to);
         } else {
-            self.pages(to);
+            self.pages::<FAULT>(to);
         }
+        self.protect::<FAULT>(to);
+    }
+
+    /// Step 1, where it comes.
+    fn unprotect(&self, to: &mut impl Records) {
         if self.unprotects {
+            let State { tb, bpl, .. } = self.state;
+            self.status_write(State { bp: 0, tb, bpl, ..State::default() }, to);
+        }
+    }
+
+    /// Step 4, where step 1 comes.
+    fn protect<const FAULT: u8>(&self, to: &mut impl Records) {
+        if self.unprotects {
+            let State { bp, tb, bpl, .. } = self.state;
             let bpl = bpl && !Fault::LockNotRestored.within(FAULT);
             self.status_write(State { bp, tb, bpl, ..State::default() }, to);
         }
@@ -142,28 +157,23 @@ impl Update<'_> {
     }
 
     /// Step 3: each page with a changing byte, from its first to its last.
-    fn pages(&self, to: &mut impl Records) {
+    fn pages<const FAULT: u8>(&self, to: &mut impl Records) {
         let mut from = 0;
+        let mut first = true;
         while from < self.wanted.len() {
             let page_end = PAGE - (self.start + from) % PAGE;
             let until = self.wanted.len().min(from + page_end);
             let (old, wanted) = (&self.old[from..until], &self.wanted[from..until]);
-            if let (Some(first), Some(last)) = (first_change(old, wanted), last_change(old, wanted))
-            {
-                let [_, high, middle, low] = ((self.start + from + first) as u32).to_be_bytes();
-                to.frame(&[0x06], &[]);
-                to.frame(&[0x02, high, middle, low], &wanted[first..=last]);
-                to.wait(self.chip.program_time);
+            let page = Page { address: self.start + from, old, wanted };
+            if let Some(changing) = page.changing() {
+                if Fault::PagesUnprotectedApart.within(FAULT) && !first {
+                    self.protect::<FAULT>(to);
+                    self.unprotect(to);
+                }
+                page.program::<FAULT>(changing, self.chip.program_time, to);
+                first = false;
             }
             from = until;
         }
     }
-}
-
-fn first_change(old: &[u8], wanted: &[u8]) -> Option<usize> {
-    old.iter().zip(wanted).position(|(old, wanted)| old != wanted)
-}
-
-fn last_change(old: &[u8], wanted: &[u8]) -> Option<usize> {
-    old.iter().zip(wanted).rposition(|(old, wanted)| old != wanted)
 }

@@ -27,9 +27,9 @@ impl<'a, R: Records> Runs<'a, R> {
     pub fn word<const FAULT: u8>(&mut self, word: Word) {
         if word.changes {
             if let Some(gap) = self.gap.take() {
-                self.put(&gap);
+                self.put::<FAULT>(&gap);
             }
-            self.put(&word);
+            self.put::<FAULT>(&word);
         } else if Fault::GapBridged.within(FAULT) && self.open && self.gap.is_none() {
             self.gap = Some(word);
         } else {
@@ -37,7 +37,11 @@ impl<'a, R: Records> Runs<'a, R> {
         }
     }
 
-    fn put(&mut self, word: &Word) {
+    #[inline(always)] // as the compiler does where it has no faults: the library is measured against it
+    fn put<const FAULT: u8>(&mut self, word: &Word) {
+        if Fault::RunNeverContinued.within(FAULT) {
+            self.close();
+        }
         if self.open {
             self.to.frame(&[0xAD], &word.bytes);
         } else {
@@ -45,7 +49,8 @@ impl<'a, R: Records> Runs<'a, R> {
             self.to.frame(&[0x06], &[]);
             self.to.frame(&[0xAD, high, middle, low], &word.bytes);
         }
-        self.to.wait(WORD_TIME);
+        let times = if Fault::WordWaitsTwice.within(FAULT) { 2 } else { 1 };
+        self.to.wait(times * WORD_TIME);
         self.open = true;
     }
 

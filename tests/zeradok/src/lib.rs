@@ -6,6 +6,7 @@ mod binding;
 mod convert;
 mod layout;
 
+pub use binding::{WORST_BYTES, WORST_FRAMES, WORST_MICROSECONDS};
 use model::{Answer, Calls, Planned, Ran, Record, State, Surveyed};
 
 /// The verified library.

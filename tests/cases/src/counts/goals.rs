@@ -8,6 +8,7 @@ use super::sorts::{FrameSort, PlanSort, ScriptSort, TimeSort};
 use super::Met;
 use crate::case::BAD_RECORD;
 use crate::unread::Clause;
+use crate::worst::Limit;
 use crate::{frames, CHIPS, F25L008A, F25L05PA};
 
 /// Things of one kind, each of which has to be met at least so many times.
@@ -43,6 +44,8 @@ pub fn goals() -> Vec<Goals> {
         goal("sorts of waits", 50, time_sorts()),
         goal("kinds of records", 100, records()),
         goal("clauses of A14 tested", 1_000, clauses()),
+        goal("limits of A8 come near", 5_000, limits()),
+        goal("refusals with the room of A8", 250, refused_with_room()),
     ]
 }
 
@@ -223,4 +226,14 @@ fn records() -> Vec<Met> {
 fn clauses() -> Vec<Met> {
     let on_each = |clause| CHIPS.map(|chip| Met::Tested { chip, clause });
     Clause::ALL.into_iter().flat_map(on_each).collect()
+}
+
+fn limits() -> Vec<Met> {
+    let on_each = |limit| CHIPS.map(|chip| Met::Near { chip, limit });
+    Limit::ALL.into_iter().flat_map(on_each).collect()
+}
+
+fn refused_with_room() -> Vec<Met> {
+    let on_each = |number| CHIPS.map(|chip| Met::RefusedWithRoom { chip, number });
+    (6..=9).flat_map(on_each).collect()
 }

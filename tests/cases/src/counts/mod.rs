@@ -10,6 +10,7 @@ use model::{Model, Reason, State};
 use crate::case::{Case, On, Outcome, BAD_RECORD};
 use crate::generator::Item;
 use crate::unread::Clause;
+use crate::worst::{Found, Limit};
 use crate::CHIPS;
 pub use goals::{goals, Goals};
 use sorts::{FrameSort, PlanSort, ScriptSort, TimeSort};
@@ -43,6 +44,10 @@ pub enum Met {
     Record { kind: u32 },
     /// A script put this clause of A14 to the test.
     Tested { chip: u8, clause: Clause },
+    /// A plan came within a hundredth of this limit of A8.
+    Near { chip: u8, limit: Limit },
+    /// A plan with the room of the worst case was refused for something else.
+    RefusedWithRoom { chip: u8, number: u32 },
 }
 
 #[derive(Default)]
@@ -69,6 +74,19 @@ impl Counts {
     pub fn note_tested(&mut self, chip: u8, clauses: &[Clause]) {
         for &clause in clauses {
             self.count(Met::Tested { chip, clause });
+        }
+    }
+
+    /// Counts what a plan with the room of the worst case came to.
+    pub fn note_save(&mut self, chip: u8, found: &Found) {
+        let Found { number, amounts, .. } = *found;
+        if number != 0 {
+            self.count(Met::RefusedWithRoom { chip, number });
+        }
+        for limit in Limit::ALL {
+            if limit.is_near(chip, &amounts) {
+                self.count(Met::Near { chip, limit });
+            }
         }
     }
 

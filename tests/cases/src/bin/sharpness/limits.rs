@@ -1,0 +1,77 @@
+//! The limits of A8, which the right model's plans keep and those of some copies break.
+
+use std::collections::BTreeMap;
+use std::fmt;
+
+use cases::worst::{Breach, Limit, Planner};
+use cases::{CHIPS, F25L008A, F25L05PA};
+use model::{Calls, Fault, Model};
+
+/// How many of the plans that the library is asked for are asked of each copy, on each chip.
+const PLANS: usize = 1_000;
+
+/// What is wrong with a copy's plans on a chip.
+type Broken = (u8, Breach);
+
+/// What copies have to break: on each chip all there is.
+const HAVE_TO_BREAK: [(Fault, Broken); 14] = [
+    (Fault::StepsNotCounted, (F25L008A, Breach::Miscounted)),
+    (Fault::StepsNotCounted, (F25L05PA, Breach::Miscounted)),
+    (Fault::RunNeverContinued, (F25L008A, Breach::Short)),
+    (Fault::RunNeverContinued, (F25L008A, Breach::Above(Limit::Bytes))),
+    (Fault::RunNeverContinued, (F25L008A, Breach::Above(Limit::Frames))),
+    (Fault::RunNeverContinued, (F25L008A, Breach::Above(Limit::FramesAndTime))),
+    (Fault::WordWaitsTwice, (F25L008A, Breach::Above(Limit::Microseconds))),
+    (Fault::WholePageSent, (F25L05PA, Breach::Short)),
+    (Fault::WholePageSent, (F25L05PA, Breach::Above(Limit::Bytes))),
+    (Fault::StretchesSentApart, (F25L05PA, Breach::Above(Limit::Frames))),
+    (Fault::StretchesSentApart, (F25L05PA, Breach::Above(Limit::Microseconds))),
+    (Fault::StretchesSentApart, (F25L05PA, Breach::Above(Limit::FramesAndTime))),
+    (Fault::PagesUnprotectedApart, (F25L05PA, Breach::Above(Limit::Bytes))),
+    (Fault::PagesUnprotectedApart, (F25L05PA, Breach::Above(Limit::Frames))),
+];
+
+/// What a copy breaks, and the first plan that shows it.
+#[derive(Default)]
+pub struct Limits(BTreeMap<Broken, usize>);
+
+impl Limits {
+    pub fn of<C: Calls>(seed: u64) -> Self {
+        let mut limits = Self::default();
+        for chip in CHIPS {
+            let mut planner = Planner::<C>::new(chip, seed);
+            for index in 0..PLANS {
+                let (_, found) = planner.plan();
+                for breach in found.breaches {
+                    limits.0.entry((chip, breach)).or_insert(index);
+                }
+            }
+        }
+        limits
+    }
+
+    /// What the copy with this fault has to break and doesn't.
+    pub fn missing(&self, fault: Fault) -> impl Iterator<Item = Broken> + '_ {
+        let own = HAVE_TO_BREAK.into_iter().filter(move |(copy, _)| *copy == fault);
+        own.map(|(_, broken)| broken).filter(|broken| !self.0.contains_key(broken))
+    }
+}
+
+impl fmt::Display for Limits {
+    fn fmt(&self, to: &mut fmt::Formatter<'_>) -> fmt::Result {
+        for ((chip, breach), plan) in &self.0 {
+            write!(to, "  {breach:?} on {chip} {plan}")?;
+        }
+        Ok(())
+    }
+}
+
+/// Whether the right model keeps the limits.
+pub fn are_kept(seed: u64) -> bool {
+    let kept = CHIPS.map(|chip| {
+        let mut planner = Planner::<Model>::new(chip, seed);
+        (0..PLANS).filter(|_| planner.plan().1.breaches.is_empty()).count()
+    });
+    println!("plans of each chip with which it keeps the limits of A8: {kept:?} of {PLANS}");
+    kept == [PLANS; 2]
+}

@@ -1,0 +1,146 @@
+//! The wrong copies of the model against the right one: `sharpness [seed]`. Each has to be told
+//! apart by the cases that the library is compared with, and the right model must not be. Some have
+//! to break clauses of A14 or limits of A8 too, which the right model must keep.
+
+mod clauses;
+mod limits;
+
+use std::fmt;
+use std::process::ExitCode;
+
+use cases::unread::Script;
+use cases::{explore, written_out, Difference};
+use clauses::Clauses;
+use limits::Limits;
+use model::{Calls, Fault, Model};
+
+const SEED: u64 = 1;
+const CASES: usize = 50_000;
+
+fn main() -> ExitCode {
+    let seed = std::env::args().nth(1).and_then(|text| text.parse().ok());
+    let seed = seed.unwrap_or(SEED);
+
+    let failing = written_out::<Model>();
+    println!("cases written out that the right model fails: {failing:?}");
+    let scripts = clauses::scripts(seed, CASES);
+    let right = [failing.is_empty(), clauses::are_kept(&scripts), limits::are_kept(seed)];
+    let mut sharp = right == [true; 3];
+
+    let broken = "clause of A14 and script, limit of A8 and plan";
+    println!("{:<28} {:>8}  {:<9}  {broken}", "wrong copy", "case", "call");
+    for fault in FAULTS {
+        let told = hunt(*fault, seed, &scripts);
+        println!("{:<28} {told}", format!("{fault:?}"));
+        sharp &= told.is_enough(*fault);
+    }
+    if sharp && clauses::tell_a_copy_by_itself(&scripts) {
+        ExitCode::SUCCESS
+    } else {
+        println!("not sharp, or the right model is wrong");
+        ExitCode::FAILURE
+    }
+}
+
+/// What tells a copy apart.
+#[derive(Default)]
+struct Told {
+    case: Option<Difference>,
+    clauses: Clauses,
+    limits: Limits,
+}
+
+impl Told {
+    fn of<C: Calls>(seed: u64, scripts: &[Script]) -> Self {
+        Self {
+            case: explore::<C>(seed, CASES, |_, _, _| ()).err(),
+            clauses: Clauses::of::<C>(scripts),
+            limits: Limits::of::<C>(seed),
+        }
+    }
+
+    /// Whether a case tells the copy with this fault, and it breaks all that it has to.
+    fn is_enough(&self, fault: Fault) -> bool {
+        let clauses = self.clauses.missing(fault).map(|broken| format!("{broken:?}"));
+        let limits = self.limits.missing(fault).map(|broken| format!("{broken:?}"));
+        let missing: Vec<String> = clauses.chain(limits).collect();
+        for broken in &missing {
+            println!("  NOT BROKEN: {broken}");
+        }
+        self.case.is_some() && missing.is_empty()
+    }
+}
+
+impl fmt::Display for Told {
+    fn fmt(&self, to: &mut fmt::Formatter<'_>) -> fmt::Result {
+        let broken = format!("{}{}", self.clauses, self.limits);
+        let width = if broken.is_empty() { 0 } else { 9 };
+        match &self.case {
+            Some(found) => write!(to, "{:>8}  {:<width$}{broken}", found.index, found.call),
+            None => write!(to, "NOT TOLD APART{broken}"),
+        }
+    }
+}
+
+/// The faults by name, each with its wrong copy; the match fails to compile if one is missing.
+macro_rules! faults {
+    ($($fault:ident)*) => {
+        const FAULTS: &[Fault] = &[$(Fault::$fault),*];
+
+        fn hunt(fault: Fault, seed: u64, scripts: &[Script]) -> Told {
+            match fault {
+                Fault::None => Told::default(),
+                $(Fault::$fault => Told::of::<Model<{ Fault::$fault as u8 }>>(seed, scripts),)*
+            }
+        }
+    };
+}
+
+faults! {
+    AddressBitKept
+    ByteStored
+    WelClearedAtFrameEnd
+    PageRunsOn
+    StatusReadKeepsArmed
+    IgnoredKeepsArmed
+    LockedByEither
+    StatusWriteLeavesWel
+    UnknownChipIs008a
+    UnsoundIsRefusal2
+    BusyNotAsked
+    WelNotAsked
+    WelKept
+    LongerEnableTaken
+    FirstSectorUnprotected
+    Bp2Protects05pa
+    ProtectionForgotten
+    AaiPassesBorder
+    WelClearedInAai
+    FirstPageByteCounts
+    MaskInSentOrder
+    OutsideByteFromArray
+    GapBridged
+    UnchangedByteUnprotected
+    LockNotRestored
+    LockCheckedBeforeBits
+    OutputCheckedBeforeRecords
+    WaitsWrap
+    EmptyFrameAccepted
+    LongerFrameAccepted
+    LengthCheckedLast
+    LastByteUnknownMark
+    ShortWaitUnknownMark
+    PastEndUnknownMark
+    OffsetOfLastGood
+    OffsetOfLength
+    OffsetWithState
+    OffsetWithArray
+    OffsetWithOutput
+    RefusedSurveyCounts
+    StepsNotCounted
+    RunNeverContinued
+    WordWaitsTwice
+    WholePageSent
+    StretchesSentApart
+    PagesUnprotectedApart
+}
