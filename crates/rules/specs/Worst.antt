@@ -31,7 +31,7 @@ pub record WorstRules : Type 0 where
   -- so a buffer of these bytes is never too short
   pub enough : (s : State) (wp : Bool) (array : List ℕ) (start : ℕ) (wanted buffer after : List ℕ) (r : Planned)
       → PlanUpdated s wp array start wanted buffer after r → worstBytes (s .chip) ≤ length buffer → r .number ≡ 10 → ⊥
-  -- and in one planning again after a cut is accepted
+  -- and planning again after a cut is accepted in one
   pub again : (wp : Bool) (chip : Device) (start : ℕ) (wanted buffer after : List ℕ) (planned : Planned) → Bytes (chip .array)
       → PlanUpdated (chip .state) wp (chip .array) start wanted buffer after planned → planned .number ≡ 0
       → (lost : Device) (room written : List ℕ) (answer : Planned) → CutAt wp (take (planned .length) after) chip lost

@@ -1,12 +1,10 @@
 -- The worst case of a plan, of what the planning call answers.
 -- Assumes nothing.
 use mathlib.Core.Path.{_≡_, sym, ap, _∙_}
-use mathlib.Core.Bool.{Bool, true}
-use mathlib.Core.List.{List}
-use Prim.Native.Nat.{ℕ, _+_, _≤_}
+use mathlib.Core.Bool.{true}
+use Prim.Native.Nat.{ℕ, _+_}
 use native.Mathlib.Nat.{le-refl}
-use lib.ListN.{length, take}
-use Rattle.common.specs.Bits.{Bytes}
+use lib.ListN.{length}
 use Rattle.chip.specs.declared.Chip.{Chip}
 use Rattle.chip.specs.Chip.{f25l008a, f25l05pa}
 use Rattle.state.specs.declared.State.{State}
@@ -14,17 +12,13 @@ use Rattle.state.specs.State.{dataOf}
 use Rattle.state.specs.Soundness.{isSound}
 use Rattle.state.proofs.Laws.Soundness.{sound-of}
 use Rattle.script.specs.declared.measure.Measure.{Measure}
-use Rattle.frame.specs.Device.{Device}
-use Rattle.plan.specs.declared.Planned.{Planned}
-use Rattle.plan.specs.Update.{PlanUpdated}
 use Rattle.plan.proofs.Laws.Refusals.{accepted-of, too-short-of}
 use Rattle.worst.specs.Worst.{worstOf}
 use Rattle.worst.proofs.Laws.Worst.{plan-worst, worst-room}
 use Rattle.worst.proofs.Laws.Reached.{worst-reached}
 use Rattle.powercut.proofs.Laws.Promises.{promises-kept, planned-again-in-worst}
 use Rattle.rules.specs.Chips.{byChip}
-use Rattle.rules.specs.Driver.{CutAt}
-use Rattle.rules.specs.Worst.{worstBytes, NotAbove, WorstRules}
+use Rattle.rules.specs.Worst.{worstBytes, WorstRules}
 use Rattle.rules.proofs.Laws.Chips.{data-by-chip}
 use Rattle.rules.proofs.Laws.Driver.{cut-lost}
 
@@ -35,39 +29,25 @@ worst-by-chip s sound part = data-by-chip (s .chip) (sound-of s sound .chip-know
 worst-bytes : (s : State) → isSound s ≡ true → worstOf (dataOf s) .length ≡ worstBytes (s .chip)
 worst-bytes s sound = worst-by-chip s sound (λ (m : Measure). m .length)
 
-not-above : (s : State) (wp : Bool) (array : List ℕ) (start : ℕ) (wanted buffer after : List ℕ) (r : Planned)
-    → PlanUpdated s wp array start wanted buffer after r → r .number ≡ 0 → NotAbove (s .chip) r
-not-above s wp array start wanted buffer after r plans good =
-    let sound = accepted-of s array start wanted wp (length buffer) (sym (plans .number) ∙ good) .region .sound in
-    let most = plan-worst s wp array start wanted buffer after r plans good in
-    record {
-      frames = rw (← worst-by-chip s sound (λ (m : Measure). m .frames)) (most .frames);
-      microseconds = rw (← worst-by-chip s sound (λ (m : Measure). m .microseconds)) (most .microseconds);
-      bytes = rw (← worst-bytes s sound) (most .bytes);
-    }
-
-enough : (s : State) (wp : Bool) (array : List ℕ) (start : ℕ) (wanted buffer after : List ℕ) (r : Planned)
-    → PlanUpdated s wp array start wanted buffer after r → worstBytes (s .chip) ≤ length buffer → r .number ≡ 10 → ⊥
-enough s wp array start wanted buffer after r plans room e =
-    let sound = too-short-of s array start wanted wp (length buffer) (sym (plans .number) ∙ e) .0 .sound in
-    worst-room s wp array start wanted buffer after r plans (rw (worst-bytes s sound) room) e
-
-again : (wp : Bool) (chip : Device) (start : ℕ) (wanted buffer after : List ℕ) (planned : Planned) → Bytes (chip .array)
-    → PlanUpdated (chip .state) wp (chip .array) start wanted buffer after planned → planned .number ≡ 0
-    → (lost : Device) (room written : List ℕ) (answer : Planned) → CutAt wp (take (planned .length) after) chip lost
-    → PlanUpdated (lost .state) wp (lost .array) start wanted room written answer → worstBytes (lost .state .chip) ≤ length room → answer .number ≡ 0
-again wp chip start wanted buffer after planned bytes plans good lost room written answer cut plans-again large =
-    let kept = promises-kept wp chip start wanted (length buffer) bytes (sym (plans .number) ∙ good) in
-    let met = cut-lost wp chip start wanted buffer after planned plans good cut in
-    let more : ℕ = length buffer + 22 in
-    let sound = accepted-of (lost .state) (lost .array) start wanted wp more (kept .again lost met more (le-refl more)) .region .sound in
-    planned-again-in-worst kept lost met plans-again (rw (worst-bytes (lost .state) sound) large)
-
 pub worst-rules : WorstRules
 worst-rules = record {
-  not-above = not-above;
-  enough = enough;
-  again = again;
+  not-above = λ s wp array start wanted buffer after r plans good.
+      let sound = accepted-of s array start wanted wp (length buffer) (sym (plans .number) ∙ good) .region .sound in
+      let most = plan-worst s wp array start wanted buffer after r plans good in
+      record {
+        frames = rw (← worst-by-chip s sound (λ (m : Measure). m .frames)) (most .frames);
+        microseconds = rw (← worst-by-chip s sound (λ (m : Measure). m .microseconds)) (most .microseconds);
+        bytes = rw (← worst-bytes s sound) (most .bytes);
+      };
+  enough = λ s wp array start wanted buffer after r plans room e.
+      let sound = too-short-of s array start wanted wp (length buffer) (sym (plans .number) ∙ e) .0 .sound in
+      worst-room s wp array start wanted buffer after r plans (rw (worst-bytes s sound) room) e;
+  again = λ wp chip start wanted buffer after planned bytes plans good lost room written answer cut plans-again large.
+      let kept = promises-kept wp chip start wanted (length buffer) bytes (sym (plans .number) ∙ good) in
+      let met = cut-lost wp chip start wanted buffer after planned plans good cut in
+      let more : ℕ = length buffer + 22 in
+      let sound = accepted-of (lost .state) (lost .array) start wanted wp more (kept .again lost met more (le-refl more)) .region .sound in
+      planned-again-in-worst kept lost met plans-again (rw (worst-bytes (lost .state) sound) large);
   reached = λ wp array buffer after r sized erased long plans.
       let at = worst-reached wp array sized erased in
       let is = at .amounts buffer after r long plans in (

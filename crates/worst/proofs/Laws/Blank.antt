@@ -116,6 +116,11 @@ module _ (s : State) (wp : Bool) (array : List ℕ) (blank : Blank s array) (wan
   changing : (k : ℕ) → 1 ≤ k → k ≤ 4096 → (x : ℕ) → getD wanted (k - 1) 0 ≡ x → d k ≡ not (eqb 255 x)
   changing k h l x e = changes-inside array 1 wanted k h (omega arith) ∙ rw (blank .erased k (omega (arith, blank .large)), e) refl
 
+  -- a word changes with its first byte; the first word has only its second in the region
+  word-with : (a : ℕ) → (1 ≤ a → d a ≡ true) → (a < 1 → d (a + 1) ≡ true) → wordChanges d a ≡ true
+  word-with a first second =
+      imp-or (d a) (d (a + 1)) (λ off. ⊎-elim (λ none. second none) (λ some. absurd (true≢false (sym (first some) ∙ off))) (split a 1))
+
   -- the first byte changes: step 1 is needed
   needed : d 1 ≡ true → stepOneNeeded s array 1 wanted ≡ true
   needed c =
@@ -139,10 +144,7 @@ module _ (s : State) (wp : Bool) (array : List ℕ) (blank : Blank s array) (wan
 
     -- one run of 2,049 words
     word-changes : (a : ℕ) → 0 ≤ a → a + 1 < 0 + 2 * 2049 → wordChanges d a ≡ true
-    word-changes a h l =
-        imp-or (d a) (d (a + 1))
-        (λ off. ⊎-elim (λ z. all (a + 1) (omega arith) (omega arith))
-        (λ some. absurd (true≢false (sym (all a some (omega arith)) ∙ off))) (split a 1))
+    word-changes a h l = word-with a (λ some. all a some (omega arith)) (λ none. all (a + 1) (omega arith) (omega arith))
 
     pub one-run-reached : dataOf s .«word_plans» ≡ true → Reaches s wp array 1 wanted mostTime
     one-run-reached e =
@@ -162,9 +164,7 @@ module _ (s : State) (wp : Bool) (array : List ℕ) (blank : Blank s array) (wan
 
     second-changes : (a : ℕ) → 0 ≤ a → a ≤ 0 + 4 * 1024 → a % 4 ≡ 0 → wordChanges d a ≡ true
     second-changes a h l e =
-        imp-or (d a) (d (a + 1))
-        (λ off. ⊎-elim (λ z. falling (a + 1) (omega arith) (omega arith) (omega arith))
-        (λ some. absurd (true≢false (sym (falling a some (omega arith) (omega arith)) ∙ off))) (split a 1))
+        word-with a (λ some. falling a some (omega arith) (omega arith)) (λ none. falling (a + 1) (omega arith) (omega arith) (omega arith))
 
     between-stays : (a : ℕ) → 0 ≤ a → a ≤ 0 + 4 * 1024 → a % 4 ≡ 2 → wordChanges d a ≡ false
     between-stays a h l e =

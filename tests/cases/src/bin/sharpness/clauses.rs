@@ -1,21 +1,22 @@
 //! The clauses of A14, where the right model gives the states and a copy the arrays.
 
-use std::collections::BTreeMap;
 use std::fmt;
 
 use cases::unread::{Breach, Clause, Extent, Script, Unread};
 use cases::{explore, Item, Outcome};
 use model::{Calls, Fault, Model};
 
+use crate::broken::Broken;
+
 /// How many of the scripts in the cases the clauses are tried on.
 const SCRIPTS: usize = 1_000;
 
-/// A clause that a copy breaks with a whole script or with a part of one.
-type Broken = (Clause, Extent);
+/// A clause, tried with a whole script or with a part of one.
+type Tried = (Clause, Extent);
 
 /// What copies have to break. One that keeps WEL has none to keep where WEL is 0 at the start and no
 /// 06 follows: only a part that begins where WEL is 0 again, by the right model, breaks the third.
-const HAVE_TO_BREAK: [(Fault, Broken); 11] = [
+const HAVE_TO_BREAK: [(Fault, Tried); 11] = [
     (Fault::ByteStored, (Clause::NoBitRaised, Extent::Script)),
     (Fault::ByteStored, (Clause::NoBitRaised, Extent::Part)),
     (Fault::BusyNotAsked, (Clause::NoBitRaised, Extent::Script)),
@@ -29,9 +30,9 @@ const HAVE_TO_BREAK: [(Fault, Broken); 11] = [
     (Fault::FirstSectorUnprotected, (Clause::ProtectedKept, Extent::Part)),
 ];
 
-/// What a copy breaks, and the first script that shows it.
+/// The clauses that a copy breaks, each with the first script that shows it.
 #[derive(Default)]
-pub struct Clauses(BTreeMap<Broken, usize>);
+pub struct Clauses(Broken<Tried>);
 
 impl Clauses {
     pub fn of<C: Calls>(scripts: &[Script]) -> Self {
@@ -42,23 +43,22 @@ impl Clauses {
         let mut clauses = Self::default();
         for (index, script) in scripts.iter().enumerate() {
             for Breach { clause, extent, .. } in unread.run(script).breaches {
-                clauses.0.entry((clause, extent)).or_insert(index);
+                clauses.0.note((clause, extent), index);
             }
         }
         clauses
     }
 
     /// What the copy with this fault has to break and doesn't.
-    pub fn missing(&self, fault: Fault) -> impl Iterator<Item = Broken> + '_ {
-        let own = HAVE_TO_BREAK.into_iter().filter(move |(copy, _)| *copy == fault);
-        own.map(|(_, broken)| broken).filter(|broken| !self.0.contains_key(broken))
+    pub fn missing(&self, fault: Fault) -> Vec<String> {
+        self.0.missing(fault, &HAVE_TO_BREAK)
     }
 }
 
 impl fmt::Display for Clauses {
     fn fmt(&self, to: &mut fmt::Formatter<'_>) -> fmt::Result {
-        for ((clause, extent), script) in &self.0 {
-            let part = if *extent == Extent::Part { "part of " } else { "" };
+        for ((clause, extent), script) in self.0.each() {
+            let part = if extent == Extent::Part { "part of " } else { "" };
             write!(to, "  {clause:?} {part}{script}")?;
         }
         Ok(())
@@ -93,8 +93,7 @@ pub fn tell_a_copy_by_itself(scripts: &[Script]) -> bool {
     type Longer = Model<{ Fault::LongerEnableTaken as u8 }>;
     let clauses = Clauses::broken(Unread::new::<Longer, Longer>(), scripts);
     println!("LongerEnableTaken by its own states:{clauses}");
-    [Extent::Script, Extent::Part].into_iter().all(|extent| {
-        let broken = (Clause::DisabledKept, extent);
-        clauses.0.contains_key(&broken)
-    })
+    [Extent::Script, Extent::Part]
+        .into_iter()
+        .all(|extent| clauses.0.has((Clause::DisabledKept, extent)))
 }

@@ -1,20 +1,21 @@
 //! The limits of A8, which the right model's plans keep and those of some copies break.
 
-use std::collections::BTreeMap;
 use std::fmt;
 
 use cases::worst::{Breach, Limit, Planner};
 use cases::{CHIPS, F25L008A, F25L05PA};
 use model::{Calls, Fault, Model};
 
+use crate::broken::Broken;
+
 /// How many of the plans that the library is asked for are asked of each copy, on each chip.
 const PLANS: usize = 1_000;
 
-/// What is wrong with a copy's plans on a chip.
-type Broken = (u8, Breach);
+/// What is wrong with plans of a chip.
+type OnChip = (u8, Breach);
 
 /// What copies have to break: on each chip all there is.
-const HAVE_TO_BREAK: [(Fault, Broken); 14] = [
+const HAVE_TO_BREAK: [(Fault, OnChip); 14] = [
     (Fault::StepsNotCounted, (F25L008A, Breach::Miscounted)),
     (Fault::StepsNotCounted, (F25L05PA, Breach::Miscounted)),
     (Fault::RunNeverContinued, (F25L008A, Breach::Short)),
@@ -31,9 +32,9 @@ const HAVE_TO_BREAK: [(Fault, Broken); 14] = [
     (Fault::PagesUnprotectedApart, (F25L05PA, Breach::Above(Limit::Frames))),
 ];
 
-/// What a copy breaks, and the first plan that shows it.
+/// The limits that a copy breaks, each with the first plan that shows it.
 #[derive(Default)]
-pub struct Limits(BTreeMap<Broken, usize>);
+pub struct Limits(Broken<OnChip>);
 
 impl Limits {
     pub fn of<C: Calls>(seed: u64) -> Self {
@@ -43,7 +44,7 @@ impl Limits {
             for index in 0..PLANS {
                 let (_, found) = planner.plan();
                 for breach in found.breaches {
-                    limits.0.entry((chip, breach)).or_insert(index);
+                    limits.0.note((chip, breach), index);
                 }
             }
         }
@@ -51,15 +52,14 @@ impl Limits {
     }
 
     /// What the copy with this fault has to break and doesn't.
-    pub fn missing(&self, fault: Fault) -> impl Iterator<Item = Broken> + '_ {
-        let own = HAVE_TO_BREAK.into_iter().filter(move |(copy, _)| *copy == fault);
-        own.map(|(_, broken)| broken).filter(|broken| !self.0.contains_key(broken))
+    pub fn missing(&self, fault: Fault) -> Vec<String> {
+        self.0.missing(fault, &HAVE_TO_BREAK)
     }
 }
 
 impl fmt::Display for Limits {
     fn fmt(&self, to: &mut fmt::Formatter<'_>) -> fmt::Result {
-        for ((chip, breach), plan) in &self.0 {
+        for ((chip, breach), plan) in self.0.each() {
             write!(to, "  {breach:?} on {chip} {plan}")?;
         }
         Ok(())

@@ -2,6 +2,7 @@
 //! apart by the cases that the library is compared with, and the right model must not be. Some have
 //! to break clauses of A14 or limits of A8 too, which the right model must keep.
 
+mod broken;
 mod clauses;
 mod limits;
 
@@ -61,11 +62,9 @@ impl Told {
 
     /// Whether a case tells the copy with this fault, and it breaks all that it has to.
     fn is_enough(&self, fault: Fault) -> bool {
-        let clauses = self.clauses.missing(fault).map(|broken| format!("{broken:?}"));
-        let limits = self.limits.missing(fault).map(|broken| format!("{broken:?}"));
-        let missing: Vec<String> = clauses.chain(limits).collect();
-        for broken in &missing {
-            println!("  NOT BROKEN: {broken}");
+        let missing = [self.clauses.missing(fault), self.limits.missing(fault)].concat();
+        for what in &missing {
+            println!("  NOT BROKEN: {what}");
         }
         self.case.is_some() && missing.is_empty()
     }
