@@ -62,6 +62,10 @@ wrongLength = 13
 abbrev pub cutShort : ℕ
 cutShort = 14
 
+-- of a flag book (02, A2): "15, a scene over 4,095 or a sector start that isn't a multiple of 4,096 inside the chip"
+abbrev pub wrongBook : ℕ
+wrongBook = 15
+
 -- ---- what a call makes of them
 
 -- a call's refusals, each number with its condition, in the order checked: the number of the first that holds, 0 where none does

@@ -1,4 +1,4 @@
-// The refusal numbers: 1 to 11 in the order of 01's table, then what can be wrong with a record (02, A1).
+// The refusal numbers: 1 to 11 in the order of 01's table, then what can be wrong with a record (02, A1) and with a book (02, A2).
 
 // the state is not sound, or the chip number unknown
 pub const STATE_NOT_SOUND: u32 = 1;
@@ -41,3 +41,6 @@ pub const WRONG_LENGTH: u32 = 13;
 
 // a record has too few bytes
 pub const CUT_SHORT: u32 = 14;
+
+// a scene or a sector that no flag book has
+pub const WRONG_BOOK: u32 = 15;

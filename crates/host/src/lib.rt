@@ -1,11 +1,11 @@
 // The library for programs in C, C++ or Rust: include/zeradok.h declares these calls. Each is one call of the model, under a name of its own.
 mod reader;
 
-use plan::Planned;
 use reader::Record;
 use run::Ran;
 use script::survey::Surveyed;
 use state::Answer;
+use state::Planned;
 use state::State;
 ghost use mathlib.Core.Path.{_≡_};
 ghost use Rattle.state.specs.Power.{newChip, powerUp};

@@ -7,7 +7,7 @@ use lib.ListN.{length, drop}
 use Rattle.common.specs.Refusals.{accepted}
 use Rattle.script.specs.Record.{Record, encode, framesIn, microsecondsIn}
 use Rattle.state.specs.declared.State.{State}
-use Rattle.plan.specs.declared.Planned.{Planned}
+use Rattle.state.specs.declared.Planned.{Planned}
 use Rattle.plan.specs.Plan.{planRecords}
 use Rattle.plan.specs.Refusals.{planRefusal}
 
@@ -19,10 +19,6 @@ givenRecords s wp array start wanted room = accepted (planRefusal s wp array sta
 abbrev pub atFront : List ℕ → List ℕ → List ℕ
 atFront script buffer = script ++ drop (length script) buffer
 
--- the answer of a refused plan
-abbrev pub refusedPlan : ℕ → State → Planned
-refusedPlan number s = record { number = number; state = s; length = 0; frames = 0; microseconds = 0 }
-
 -- The answer, and the buffer before and after. A plan changes no state; a refused one also "changes no buffer and returns .. length and counts 0".
 pub record PlanUpdated (s : State) (wp : Bool) (array : List ℕ) (start : ℕ) (wanted buffer after : List ℕ) (r : Planned) : Type 0 where
   pub number : r .number ≡ planRefusal s wp array start wanted (lib.ListN.length buffer)
@@ -31,3 +27,7 @@ pub record PlanUpdated (s : State) (wp : Bool) (array : List ℕ) (start : ℕ) 
   pub frames : r .frames ≡ framesIn (givenRecords s wp array start wanted (lib.ListN.length buffer))
   pub microseconds : r .microseconds ≡ microsecondsIn (givenRecords s wp array start wanted (lib.ListN.length buffer))
   pub buffer-after : after ≡ atFront (encode (givenRecords s wp array start wanted (lib.ListN.length buffer))) buffer
+
+-- the same under one name, for the layers above: passed on to them shut (crate `promises`)
+unfoldable pub Plans : State → Bool → List ℕ → ℕ → List ℕ → List ℕ → List ℕ → Planned → Type 0
+Plans s wp array start wanted buffer after r = PlanUpdated s wp array start wanted buffer after r

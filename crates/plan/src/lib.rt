@@ -4,6 +4,7 @@ mod status; // steps 1 and 4
 use common::limits::LONGEST_WANTED;
 use common::refusals;
 use script::measure::Measure;
+use state::Planned;
 use state::State;
 ghost use mathlib.Core.Path.{_≡_};
 ghost use mathlib.Core.Bool.{_||_};
@@ -18,29 +19,7 @@ ghost use Rattle.common.specs.Buffer.{Put};
 ghost use Rattle.plan.specs.Plan.{stepOneNeeded, programStep, planRecords};
 ghost use Rattle.plan.specs.Refusals.{regionRefusals};
 ghost use Rattle.common.specs.Limits.{longestWanted};
-ghost use Rattle.plan.specs.Update.{refusedPlan, PlanUpdated};
-
-// A plan's answer: 0, the given state and what the script in the buffer amounts to; or the refusal's number, the given state and 0.
-#[repr(C)]
-pub struct Planned {
-    pub number: u32,
-    pub state: State,
-    pub length: u32,
-    pub frames: u32,
-    pub microseconds: u32,
-}
-
-fn refused_plan(number: u32, state: State) -> Planned
-    ensures { λ r. ⌜ r ≡ refusedPlan number state ⌝ }
-{
-    Planned {
-        number,
-        state,
-        length: 0,
-        frames: 0,
-        microseconds: 0,
-    }
-}
+ghost use Rattle.plan.specs.Update.{PlanUpdated};
 
 // Whether a region has over 4,096 bytes or ends above the size. The sum of start and length may not fit, so it is not made.
 fn region_exceeds(size: usize, start: usize, n: usize) -> bool
@@ -151,15 +130,15 @@ pub fn plan_update(
 {
     let number = region_refusal(s, array, start, wanted);
     if number != 0 {
-        return refused_plan(number, s);
+        return state::refuse_plan(number, s);
     }
     let needed = status::step_one_needed(s, array, start, wanted);
     if needed & s.bpl & !wp {
-        return refused_plan(refusals::STATUS_LOCKED, s);
+        return state::refuse_plan(refusals::STATUS_LOCKED, s);
     }
     let m = measure_plan(s, needed, array, start, wanted);
     if buffer.len() < m.length as usize {
-        return refused_plan(refusals::BUFFER_TOO_SHORT, s);
+        return state::refuse_plan(refusals::BUFFER_TOO_SHORT, s);
     }
     put_plan(s, needed, array, start, wanted, buffer);
     Planned {

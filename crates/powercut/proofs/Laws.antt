@@ -7,6 +7,7 @@ mod Frames
 mod Status
 mod Words
 mod Pages
+pub mod Updated
 mod Region
 mod Length
 mod PlanRun
@@ -14,7 +15,6 @@ mod Completes
 mod Recovery
 pub mod PowerCut
 pub mod Calls
-pub mod Promises
 mod Samples
 mod Witness
 mod Counterexamples

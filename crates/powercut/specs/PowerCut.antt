@@ -7,7 +7,8 @@ use Prim.Native.Nat.{ℕ, _+_, _-_, _≤_}
 use lib.ListN.{length, getD}
 use Rattle.common.specs.Lists.{mapi, within}
 use Rattle.state.specs.declared.State.{State}
-use Rattle.state.specs.State.{withWel, withArmed}
+use Rattle.state.specs.State.{dataOf, withWel, withArmed}
+use Rattle.state.specs.Soundness.{isSound}
 use Rattle.state.specs.Power.{powerUp}
 use Rattle.state.specs.Time.{passTime}
 use Rattle.script.specs.Record.{Record, frame, wait, encode}
@@ -17,9 +18,9 @@ use Rattle.common.specs.Bits.{Bytes, bitAt}
 use Rattle.run.specs.declared.Ran.{Ran}
 use Rattle.run.specs.Run.{run}
 use Rattle.script.specs.Decode.{recordsOf}
-use Rattle.plan.specs.declared.Planned.{Planned}
+use Rattle.state.specs.declared.Planned.{Planned}
 use Rattle.plan.specs.Plan.{planRecords}
-use Rattle.plan.specs.Refusals.{planRefusal}
+use Rattle.plan.specs.Refusals.{isActive, planRefusal}
 
 -- what plans: the records for a chip's state, its array, a start address and the wanted bytes
 abbrev pub Planner : Type 0
@@ -108,6 +109,18 @@ Finished wp chip start wanted after = after ≡ run wp (planRecords (chip .state
 -- cut somewhere, and powered up
 unfoldable pub PowerLost : Bool → Device → ℕ → List ℕ → Device → Type 0
 PowerLost wp chip start wanted after = CutShort (planRecords (chip .state) (chip .array) start wanted) wp chip after
+
+-- either of the two
+abbrev pub BehindPlan : Bool → Device → ℕ → List ℕ → Device → Type 0
+BehindPlan wp chip start wanted after = Finished wp chip start wanted after ⊎ PowerLost wp chip start wanted after
+
+-- a chip of this number that the next plan can be made for: sound and at rest, with an array of its size and of bytes
+pub record Ready (number : ℕ) (chip : Device) : Type 0 where
+  pub same-chip : chip .state .chip ≡ number
+  pub sound : isSound (chip .state) ≡ true
+  pub at-rest : isActive (chip .state) ≡ false
+  pub sized : length (chip .array) ≡ dataOf (chip .state) .size
+  pub bytes : Bytes (chip .array)
 
 -- ---- the same of the calls
 

@@ -1,7 +1,6 @@
 // The region of an update: what is wanted at each address, and which bytes change.
 ghost use mathlib.Core.Path.{_≡_};
-ghost use lib.ListN.{length};
-ghost use Rattle.region.specs.Region.{Inside, wantedAt, changes, rises, anyOf};
+ghost use Rattle.region.specs.Region.{Inside, wantedAt, changes, wantsRise};
 
 // The byte wanted at an address: FF outside the region.
 pub fn wanted_at(start: usize, wanted: &[u8], address: usize) -> u8
@@ -32,7 +31,7 @@ pub fn changes(array: &[u8], start: usize, wanted: &[u8], address: usize) -> boo
 // Whether a 1 is wanted where the array has 0: only an erase could give it.
 pub fn wants_rise(array: &[u8], start: usize, wanted: &[u8]) -> bool
     requires { ⌜ Inside (now array) start (now wanted) ⌝ }
-    ensures { λ r. ⌜ r ≡ anyOf (rises (now (array .entry)) start (now (wanted .entry))) (length (now (wanted .entry))) start ⌝ }
+    ensures { λ r. ⌜ r ≡ wantsRise (now (array .entry)) start (now (wanted .entry)) ⌝ }
 {
     let mut i: usize = 0;
     while i < wanted.len() {

@@ -5,7 +5,6 @@ use mathlib.Core.List.{List}
 use mathlib.Core.Logic.{_⊎_}
 use Prim.Native.Nat.{ℕ, _+_, _≤_, _<_}
 use lib.ListN.{length, getD}
-use Rattle.common.specs.Bits.{bitAt}
 use Rattle.state.specs.declared.State.{State}
 use Rattle.state.specs.Protection.{firstProtected}
 use Rattle.frame.specs.Device.{Device}
@@ -14,6 +13,8 @@ use Rattle.script.specs.Record.{Record, AllFit, encode, outputLength}
 use Rattle.plan.specs.Plan.{planRecords}
 use Rattle.rules.specs.Chips.{bytesOf}
 use Rattle.rules.specs.Soundness.{SoundState}
+-- 8: "a wanted 1 where the array has 0", as a place of the region and a bit
+pub use Rattle.region.specs.Region.{WantedRises}
 
 -- 1: "state not sound, or chip number unknown"
 abbrev pub NotSound : State → Type 0
@@ -50,14 +51,6 @@ WrongRegion s start wanted = (4096 < length wanted) ⊎ (size s < start + length
 -- 7: "not at rest: busy, AAI or power-down"
 abbrev pub NotAtRest : State → Type 0
 NotAtRest s = (0 < s .left) ⊎ (s .aai ≡ true) ⊎ (s .«power_down» ≡ true)
-
--- 8: "a wanted 1 where the array has 0"
-pub record WantedRises (array : List ℕ) (start : ℕ) (wanted : List ℕ) : Type 0 where
-  pub place : ℕ
-  pub bit : ℕ
-  pub inside : place < length wanted
-  pub wanted-1 : bitAt (getD wanted place 0) bit ≡ 1
-  pub array-0 : bitAt (getD array (start + place) 0) bit ≡ 0
 
 -- 9: "step 1 needed, BPL 1, WP low"; "if a byte that changes is protected"
 pub record StatusLocked (s : State) (wp : Bool) (array : List ℕ) (start : ℕ) (wanted : List ℕ) : Type 0 where

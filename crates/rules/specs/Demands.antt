@@ -22,7 +22,7 @@ use Rattle.script.specs.Answers.{numberOf}
 use Rattle.script.specs.Reader.{recordAt, framePart}
 use Rattle.run.specs.declared.Ran.{Ran}
 use Rattle.run.specs.Script.{ScriptRun}
-use Rattle.plan.specs.declared.Planned.{Planned}
+use Rattle.state.specs.declared.Planned.{Planned}
 use Rattle.plan.specs.Update.{PlanUpdated}
 use Rattle.powercut.specs.PowerCut.{updated, Partway}
 use Rattle.samples.specs.Session.{Holds}

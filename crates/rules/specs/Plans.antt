@@ -7,7 +7,8 @@ use lib.ListN.{length, getD, take, drop}
 use Rattle.state.specs.declared.State.{State}
 use Rattle.script.specs.Record.{Record, encode}
 use Rattle.script.specs.Decode.{records, decode}
-use Rattle.plan.specs.declared.Planned.{Planned}
+use Rattle.state.specs.declared.Planned.{Planned}
+use Rattle.region.specs.Region.{NothingChanges}
 use Rattle.rules.specs.Running.{Counted}
 use Rattle.rules.specs.PlanStatus.{ProtectedChange, StatusFrames}
 use Rattle.rules.specs.PlanWords.{WordsStep}
@@ -24,10 +25,6 @@ pub record PlanWritten (plan : List Record) (buffer after : List ℕ) (r : Plann
   pub length : r .length ≡ lib.ListN.length (encode plan)
   pub frames-and-microseconds : Counted plan (r .frames) (r .microseconds)
   pub a-script : decode (take (r .length) after) ≡ records plan
-
--- every byte of the region is as wanted
-abbrev pub NothingChanges : List ℕ → ℕ → List ℕ → Type 0
-NothingChanges array start wanted = (i : ℕ) → i < length wanted → getD array (start + i) 0 ≡ getD wanted i 0
 
 pub record PlanSteps (s : State) (array : List ℕ) (start : ℕ) (wanted : List ℕ) (plan : List Record) : Type 0 where
   -- "Changing nothing gives the empty script.", and nothing else does

@@ -15,7 +15,7 @@ use Rattle.frame.specs.Device.{Device}
 use Rattle.frame.specs.Call.{FrameRun, CutRun}
 use Rattle.run.specs.declared.Ran.{Ran}
 use Rattle.run.specs.Script.{ScriptRun}
-use Rattle.plan.specs.declared.Planned.{Planned}
+use Rattle.state.specs.declared.Planned.{Planned}
 use Rattle.plan.specs.Update.{PlanUpdated}
 use Rattle.rules.specs.Chips.{byChip}
 

@@ -8,7 +8,7 @@ use Rattle.common.specs.Bits.{Bytes}
 use Rattle.state.specs.declared.State.{State}
 use Rattle.state.specs.Power.{atRest}
 use Rattle.frame.specs.Device.{Device}
-use Rattle.plan.specs.declared.Planned.{Planned}
+use Rattle.state.specs.declared.Planned.{Planned}
 use Rattle.plan.specs.Update.{PlanUpdated}
 use Rattle.rules.specs.Chips.{byChip}
 use Rattle.rules.specs.Driver.{CutAt}

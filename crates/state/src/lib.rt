@@ -6,7 +6,7 @@ pub mod status;
 pub mod time;
 
 ghost use mathlib.Core.Path.{_≡_};
-ghost use Rattle.state.specs.Answer.{granted, refused};
+ghost use Rattle.state.specs.Answer.{granted, refused, refusedPlan, toldOf};
 
 // BUSY is "left above 0" and no field.
 #[repr(C)]
@@ -36,6 +36,24 @@ pub struct Answer {
     pub state: State,
 }
 
+// A plan's answer: 0, the given state and what the script in the buffer amounts to; or the refusal's number, the given state and 0.
+#[repr(C)]
+pub struct Planned {
+    pub number: u32,
+    pub state: State,
+    pub length: u32,
+    pub frames: u32,
+    pub microseconds: u32,
+}
+
+// A question's answer: 0, the given state and 1 or 0, or how many; or the refusal's number, the given state and 0.
+#[repr(C)]
+pub struct Told {
+    pub number: u32,
+    pub state: State,
+    pub value: u32,
+}
+
 pub fn grant(state: State) -> Answer
     ensures { λ r. ⌜ r ≡ granted state ⌝ }
 {
@@ -46,4 +64,16 @@ pub fn refuse(number: u32, state: State) -> Answer
     ensures { λ r. ⌜ r ≡ refused number state ⌝ }
 {
     Answer { number, state }
+}
+
+pub fn refuse_plan(number: u32, state: State) -> Planned
+    ensures { λ r. ⌜ r ≡ refusedPlan number state ⌝ }
+{
+    Planned {
+        number,
+        state,
+        length: 0,
+        frames: 0,
+        microseconds: 0,
+    }
 }

@@ -7,8 +7,9 @@ use lib.ListN.{length}
 use Rattle.common.specs.Refusals.{bufferTooShort}
 use Rattle.chip.specs.declared.Chip.{Chip}
 use Rattle.state.specs.declared.State.{State}
+use Rattle.state.specs.State.{dataOf}
 use Rattle.script.specs.declared.measure.Measure.{Measure}
-use Rattle.plan.specs.declared.Planned.{Planned}
+use Rattle.state.specs.declared.Planned.{Planned}
 use Rattle.plan.specs.Update.{PlanUpdated}
 
 -- "On the 008A: at most 3,079 frames, 14,343 µs and 26,672 script bytes.
@@ -22,6 +23,10 @@ worstByPages = record { frames = 38; microseconds = 25500; length = 4441 }
 -- of a chip, by its data: steps 1 and 4 are in it
 abbrev pub worstOf : Chip → Measure
 worstOf chip = cond (chip .«word_plans») worstByWords worstByPages
+
+-- the bytes of it, which are room enough for any plan
+unfoldable pub roomEnough : State → ℕ
+roomEnough s = worstOf (dataOf s) .length
 
 -- what a plan's answer reports of its script
 abbrev pub reported : Planned → Measure

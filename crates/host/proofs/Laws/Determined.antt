@@ -18,7 +18,7 @@ use Rattle.script.proofs.Laws.Survey.{survey-of-determined}
 use Rattle.run.specs.declared.Ran.{Ran}
 use Rattle.run.specs.Script.{ScriptRun}
 use Rattle.run.proofs.Laws.Script.{run-script-determined}
-use Rattle.plan.specs.declared.Planned.{Planned}
+use Rattle.state.specs.declared.Planned.{Planned}
 use Rattle.plan.specs.Update.{PlanUpdated}
 use Rattle.plan.proofs.Laws.Update.{plan-update-determined}
 use Rattle.host.specs.Read.{ReadAnswered}

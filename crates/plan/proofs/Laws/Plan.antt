@@ -14,11 +14,12 @@ use Rattle.script.proofs.Laws.Decode.{decode-encode}
 use Rattle.script.proofs.Laws.Records.{all-fit-append, encoded-length, encode-append}
 use Rattle.state.specs.declared.State.{State}
 use Rattle.state.specs.State.{dataOf}
-use Rattle.region.specs.Region.{changes}
+use Rattle.region.specs.Region.{changes, NothingChanges}
 use Rattle.script.specs.Measure.{measureOf}
 use Rattle.script.specs.declared.measure.Measure.{Measure}
 use Rattle.script.proofs.Laws.Measure.{measured}
 use Rattle.region.proofs.Laws.Region.{changes-before, changes-behind}
+use Rattle.region.proofs.Laws.Words.{nothing-changes-exactly}
 use Rattle.plan.proofs.Laws.Steps.{free-not-needed, status-fits, measure-status, with-status-most, with-status-least, program-fits, program-none, program-unchanged}
 use Rattle.plan.specs.Plan.{stepOneNeeded, statusRecords, statusStep, programStep, planRecords, withStatusSteps}
 use Rattle.common.specs.Refusals.{Exactly}
@@ -89,5 +90,7 @@ module _ (s : State) (array : List ℕ) (start : ℕ) (wanted : List ℕ) where
       (λ h. ⊎-elim (λ l. program-unchanged (dataOf s .«word_plans») array start wanted none k h l) (λ l. changes-behind array start wanted k l)
       (split k (start + length wanted))) (split k start)
 
-  pub plan-empty-exactly : Exactly (planRecords s array start wanted ≡ []) ((k : ℕ) → changes array start wanted k ≡ false)
-  plan-empty-exactly = record { when = plan-unchanged; only-when = plan-none }
+  pub plan-empty-exactly : Exactly (planRecords s array start wanted ≡ []) (NothingChanges array start wanted)
+  plan-empty-exactly =
+      let same = nothing-changes-exactly array start wanted in
+      record { when = λ e. same .when (plan-unchanged e); only-when = λ h. plan-none (same .only-when h) }

@@ -20,7 +20,7 @@ use Rattle.state.specs.Soundness.{isSound, isBusy}
 use Rattle.chip.proofs.Laws.Chip.{regular}
 use Rattle.region.specs.Region.{Inside}
 use Rattle.plan.specs.Plan.{stepOneNeeded, planRecords}
-use Rattle.plan.specs.Refusals.{regionRefusals, scriptRefusals, planRefusals, planRefusal, RegionAccepted, Accepted}
+use Rattle.plan.specs.Refusals.{isActive, isLocked, bytesNeeded, regionRefusals, scriptRefusals, planRefusals, planRefusal, RegionAccepted, Accepted}
 use Rattle.common.specs.Limits.{longestWanted}
 
 -- ---- refusal 6, without the sum
@@ -46,6 +46,7 @@ module _ (s : State) (array : List ℕ) (start : ℕ) (wanted : List ℕ) where
   region-clear e = clear (regionRefusals s array start wanted) refl e
 
   region-words : Clear (regionRefusals s array start wanted) → RegionAccepted s array start wanted
+  unfolding isActive
   region-words c =
       let six = c .1 .1 .0 in
       let seven = c .1 .1 .1 .0 in
@@ -61,6 +62,7 @@ module _ (s : State) (array : List ℕ) (start : ℕ) (wanted : List ℕ) where
       }
 
   words-region : RegionAccepted s array start wanted → Clear (regionRefusals s array start wanted)
+  unfolding isActive
   words-region a = (
     rw (a .sound) refl,
     (
@@ -103,25 +105,25 @@ module _ (s : State) (array : List ℕ) (start : ℕ) (wanted : List ℕ) where
 
     pub refusal-locked : firstOf (regionRefusals s array start wanted) ≡ 0 → (stepOneNeeded s array start wanted && s .bpl && not wp) ≡ true
         → planRefusal s wp array start wanted room ≡ statusLocked
-    unfolding planRefusal
+    unfolding planRefusal isLocked
     refusal-locked e locked = first-behind (regionRefusals s array start wanted) (scriptRefusals s wp array start wanted room) (region-clear e) ∙ rw locked refl
 
     pub refusal-short : firstOf (regionRefusals s array start wanted) ≡ 0 → (stepOneNeeded s array start wanted && s .bpl && not wp) ≡ false
         → room < length (encode (planRecords s array start wanted)) → planRefusal s wp array start wanted room ≡ bufferTooShort
-    unfolding planRefusal
+    unfolding planRefusal isLocked bytesNeeded
     refusal-short e locked short =
         first-behind (regionRefusals s array start wanted) (scriptRefusals s wp array start wanted room) (region-clear e)
         ∙ rw (locked, lt-ltb room (length (encode (planRecords s array start wanted))) short) refl
 
     -- accepted: number 0, and the same in words
     pub of-accepted : Accepted s wp array start wanted room → planRefusal s wp array start wanted room ≡ 0
-    unfolding planRefusal
+    unfolding planRefusal isLocked bytesNeeded
     of-accepted a =
         first-behind (regionRefusals s array start wanted) (scriptRefusals s wp array start wanted room) (words-region (a .region))
         ∙ rw (a .writable, le-ltb room (length (encode (planRecords s array start wanted))) (a .roomy)) refl
 
     pub accepted-of : planRefusal s wp array start wanted room ≡ 0 → Accepted s wp array start wanted room
-    unfolding planRefusal
+    unfolding planRefusal isLocked bytesNeeded
     accepted-of e =
         let c = clear (planRefusals s wp array start wanted room) refl e in
         record {
@@ -133,6 +135,7 @@ module _ (s : State) (array : List ℕ) (start : ℕ) (wanted : List ℕ) where
     -- refused for the room: for nothing else
     pub too-short-of : planRefusal s wp array start wanted room ≡ bufferTooShort
         → RegionAccepted s array start wanted × (room < length (encode (planRecords s array start wanted)))
+    unfolding bytesNeeded
     too-short-of e =
         let g = refused-exactly bufferTooShort (omega arith) .when e in (
           region-words (g .0, (g .1 .0, (g .1 .1 .0, (g .1 .1 .1 .0, (g .1 .1 .1 .1 .0, tt))))),

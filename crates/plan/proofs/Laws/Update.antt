@@ -11,14 +11,15 @@ use Rattle.script.specs.Record.{Record, encode}
 use Rattle.script.proofs.Laws.Records.{encoded-length, encode-none}
 use Rattle.script.proofs.Laws.Measure.{Counts, counts-none, measured}
 use Rattle.state.specs.declared.State.{State}
+use Rattle.state.specs.Answer.{refusedPlan}
 use Rattle.script.specs.declared.measure.Measure.{Measure}
 use Rattle.common.specs.Buffer.{written}
 use Rattle.script.specs.Measure.{measureOf}
 use Rattle.common.proofs.Laws.Buffer.{written-front}
-use Rattle.plan.specs.declared.Planned.{Planned}
+use Rattle.state.specs.declared.Planned.{Planned}
 use Rattle.plan.specs.Plan.{planRecords}
 use Rattle.plan.specs.Refusals.{planRefusal}
-use Rattle.plan.specs.Update.{givenRecords, refusedPlan, PlanUpdated}
+use Rattle.plan.specs.Update.{givenRecords, PlanUpdated}
 
 -- the length that was measured is that of the script
 pub measured-length : (rs : List Record) (m : Measure) → m ≡ measureOf rs → m .length ≡ length (encode rs)

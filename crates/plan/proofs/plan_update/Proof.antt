@@ -23,23 +23,23 @@ inside c = let a = c .before .before .before .before .before .args in accepted-i
 region-refusal-requires : tie.Need-region-refusal-requires
 region-refusal-requires c κs = search needs
 
-refused-plan-requires : tie.Need-refused-plan-requires
-refused-plan-requires c κs = search needs
+refuse-plan-requires : tie.Need-refuse-plan-requires
+refuse-plan-requires c κs = search needs
 
 returns : tie.Need-returns
 returns c =
-    rw (c .refused-plan .ensures)
+    rw (c .refuse-plan .ensures)
     (plan-refused _ _ _ _ _ _ _ (omega arith) (refusal-region _ _ _ _ _ _ _ (omega arith) (sym (c .before .before .region-refusal .ensures))))
 
 step-one-needed-requires : tie.Need-step-one-needed-requires
 step-one-needed-requires c κs = inside c
 
-refused-plan-requires-2 : tie.Need-refused-plan-requires-2
-refused-plan-requires-2 c κs = search needs
+refuse-plan-requires-2 : tie.Need-refuse-plan-requires-2
+refuse-plan-requires-2 c κs = search needs
 
 returns-2 : tie.Need-returns-2
 returns-2 c =
-    rw (c .refused-plan2 .ensures)
+    rw (c .refuse-plan2 .ensures)
     (plan-refused _ _ _ _ _ _ statusLocked (omega arith) (refusal-locked _ _ _ _ _ _ (passed (c .before .before .before .before)) (rw (c .before .before .before .step-one-needed .ensures) at (c .before .if2 .taken))))
 
 measure-plan-requires : tie.Need-measure-plan-requires
@@ -48,14 +48,14 @@ measure-plan-requires c κs = (inside (c .before .before .before), c .before .be
 cast-if3 : tie.Need-cast-if3
 cast-if3 c = search needs
 
-refused-plan-requires-3 : tie.Need-refused-plan-requires-3
-refused-plan-requires-3 c κs = search needs
+refuse-plan-requires-3 : tie.Need-refuse-plan-requires-3
+refuse-plan-requires-3 c κs = search needs
 
 returns-3 : tie.Need-returns-3
 returns-3 c =
     let a = c .before .before .before .before .before .before .before .before .before .before .before .before .args in
     let long = measured-length (planRecords (a .s) (a .array .now) (a .start) (a .wanted .now)) (c .before .before .before .measure-plan .result) (c .before .before .before .measure-plan .ensures) in
-    rw (c .refused-plan3 .ensures)
+    rw (c .refuse-plan3 .ensures)
     (plan-refused _ _ _ _ _ _ bufferTooShort (omega arith) (refusal-short _ _ _ _ _ _ (passed (c .before .before .before .before .before .before .before)) (rw (c .before .before .before .before .before .before .step-one-needed .ensures) at (c .before .before .before .before .if2 .left)) (omega arith)))
 
 put-plan-requires : tie.Need-put-plan-requires
@@ -82,14 +82,14 @@ plan-update-spec =
     tie.close
     (tie.spec
     region-refusal-requires
-    refused-plan-requires
+    refuse-plan-requires
     returns
     step-one-needed-requires
-    refused-plan-requires-2
+    refuse-plan-requires-2
     returns-2
     measure-plan-requires
     cast-if3
-    refused-plan-requires-3
+    refuse-plan-requires-3
     returns-3
     put-plan-requires
     same-length

@@ -5,6 +5,7 @@ use mathlib.Core.Bool.{not}
 use borrow.Author.Tests.{eq-eqb, ne-eqb}
 use borrow.Author.Needs.{needs}
 use Rattle.common.proofs.Laws.Choice.{yes, no}
+use Rattle.plan.specs.Refusals.{isActive}
 use Rattle.plan.proofs.Laws.Refusals.{region-inside}
 use Rattle.plan.proofs.region_refusal.Statement.{statement}
 use Rattle.plan.proofs.region_refusal.Tie as tie
@@ -35,6 +36,7 @@ returns-3 c =
     (yes _ (rw (c .before .region-exceeds .ensures, size) at (c .if3 .taken)) refl))
 
 returns-4 : tie.Need-returns-4
+unfolding isActive
 returns-4 c =
     let size = c .before .before .before .before .before .before .before .before .before .before .chip-of .ensures in
     no _ (rw (c .before .before .before .before .before .before .before .before .is-sound .ensures) at (c .before .before .before .before .before .before .before .if1 .left)) (no _ (ap not (eq-eqb _ _ (rw size at (c .before .before .before .before .before .before .if2 .left))))
@@ -46,6 +48,7 @@ wants-rise-requires c κs =
     region-inside (c .before .before .before .before .before .before .before .before .before .before .before .before .before .args .s) _ _ _ (rw size at (c .before .before .before .before .before .before .if2 .left)) (rw (c .before .before .before .before .before .region-exceeds .ensures, size) at (c .before .before .before .before .if3 .left))
 
 returns-5 : tie.Need-returns-5
+unfolding isActive
 returns-5 c =
     let size = c .before .before .before .before .before .before .before .before .before .before .before .before .chip-of .ensures in
     no _ (rw (c .before .before .before .before .before .before .before .before .before .before .is-sound .ensures) at (c .before .before .before .before .before .before .before .before .before .if1 .left)) (no _ (ap not (eq-eqb _ _ (rw size at (c .before .before .before .before .before .before .before .before .if2 .left))))
@@ -53,6 +56,7 @@ returns-5 c =
     (yes _ (rw (c .before .wants-rise .ensures) at (c .if5 .taken)) refl))))
 
 returns-6 : tie.Need-returns-6
+unfolding isActive
 returns-6 c =
     let size = c .before .before .before .before .before .before .before .before .before .before .before .before .chip-of .ensures in
     no _ (rw (c .before .before .before .before .before .before .before .before .before .before .is-sound .ensures) at (c .before .before .before .before .before .before .before .before .before .if1 .left)) (no _ (ap not (eq-eqb _ _ (rw size at (c .before .before .before .before .before .before .before .before .if2 .left))))

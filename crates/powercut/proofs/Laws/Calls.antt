@@ -31,7 +31,7 @@ use Rattle.run.proofs.Laws.Accepted.{accepted-number, encoded-accepted}
 use Rattle.run.proofs.Laws.Run.{Ready, outputs-length, frame-accepted-among}
 use Rattle.run.proofs.Laws.Script.{ranOf}
 use Rattle.run.proofs.Laws.Prefix.{RanRecords, script-ran-records, records-before-ran, ReadTo, read-goes-on, read-frame, read-wait, RunTo, run-to-start, run-to-end}
-use Rattle.plan.specs.declared.Planned.{Planned}
+use Rattle.state.specs.declared.Planned.{Planned}
 use Rattle.plan.specs.Plan.{planRecords}
 use Rattle.plan.specs.Refusals.{planRefusal}
 use Rattle.plan.specs.Update.{givenRecords, PlanUpdated}

@@ -31,10 +31,10 @@ use Rattle.run.specs.Run.{run}
 use Rattle.region.specs.Region.{wantedAt, changes}
 use Rattle.words.specs.Words.{changingWords, joined, runsOf, furtherRecords, runRecords, runsRecords, wordsStep, wordsIn}
 use Rattle.plan.specs.Plan.{programStep}
-use Rattle.plan.specs.Refusals.{planRefusal}
+use Rattle.plan.specs.Refusals.{isActive, planRefusal}
 use Rattle.powercut.specs.PowerCut.{Planner, updated, Partway, Completes, PowerCutSafe}
 use Rattle.powercut.proofs.Laws.States.{standing}
-use Rattle.powercut.proofs.Laws.Region.{updated-at}
+use Rattle.powercut.proofs.Laws.Updated.{updated-at}
 use Rattle.powercut.proofs.Laws.Samples.{fe, wordPlan}
 use Rattle.run.proofs.Laws.Run.{run-array-length}
 use Rattle.run.proofs.Laws.Trace.{stateBehind, byteBehind, traced}
@@ -115,12 +115,12 @@ module _ (wp : Bool) where
   data-rises = rw (mask-place-start (Program 0x12344 2 4)) refl
 
   aai-unsound : (array : List ℕ) (room : ℕ) → planRefusal (aaiKept (stateBehind wp begun (atRest 8 0 false false))) wp array 0x12345 fe room ≡ stateNotSound
-  unfolding planRefusal isSound isKnown poweredUp newState chipOf firstProtected commandOf byKind kindOf stateAfter timePassed cycleEnded writable address
+  unfolding planRefusal isActive isSound isKnown poweredUp newState chipOf firstProtected commandOf byKind kindOf stateAfter timePassed cycleEnded writable address
   aai-unsound array room = refl
 
   still-busy : (array : List ℕ) (room : ℕ) → length array ≡ 1048576
       → planRefusal (busyKept (passTime (stateBehind wp sent (atRest 8 0 false false)) 3 .state)) wp array 0x12345 fe room ≡ notAtRest
-  unfolding planRefusal passTime stateRefusal isSound isKnown poweredUp newState chipOf firstProtected commandOf byKind kindOf stateAfter timePassed cycleEnded writable address
+  unfolding planRefusal isActive passTime stateRefusal isSound isKnown poweredUp newState chipOf firstProtected commandOf byKind kindOf stateAfter timePassed cycleEnded writable address
   still-busy array room sized = rw sized refl
 
   module _ (given : Device) (array : List ℕ) (sized : length array ≡ 1048576) (byte : getD array 0x12345 0 ≡ 0xff) where

@@ -1,8 +1,9 @@
 -- Demand 3, for every chip: an accepted plan is safe from power cuts, as records and as the bytes of its script.
 -- Assumes nothing.
-use mathlib.Core.Path.{_≡_, refl, sym, ap, subst}
-use mathlib.Core.Bool.{Bool}
+use mathlib.Core.Path.{_≡_, refl, sym, ap, subst, _∙_}
+use mathlib.Core.Bool.{Bool, false}
 use mathlib.Core.List.{List, _∷_, _++_}
+use mathlib.Core.Logic.{⊎-elim}
 use Prim.Native.Nat.{ℕ, _+_}
 use lib.ListN.{length}
 use Rattle.state.specs.declared.State.{State}
@@ -11,7 +12,7 @@ use Rattle.state.specs.Soundness.{Sound}
 use Rattle.state.specs.Power.{poweredUp}
 use Rattle.state.specs.Time.{timePassed}
 use Rattle.state.proofs.Laws.Passed.{pass-time-granted}
-use Rattle.state.proofs.Laws.Soundness.{sound-of}
+use Rattle.state.proofs.Laws.Soundness.{sound-of, of-sound}
 use Rattle.script.specs.Record.{Record, frame, wait}
 use Rattle.script.proofs.Laws.Decode.{decode-encode}
 use Rattle.frame.specs.Device.{Device, withState}
@@ -23,18 +24,20 @@ use Rattle.frame.proofs.Laws.Call.{cut-accepted}
 use Rattle.frame.proofs.Laws.Ran.{torn-is}
 use Rattle.script.specs.Decode.{recordsIn}
 use Rattle.run.specs.Run.{run}
+use Rattle.region.specs.Region.{wantedAt}
 use Rattle.plan.specs.Plan.{planRecords}
-use Rattle.plan.specs.Refusals.{planRefusal, Accepted}
+use Rattle.plan.specs.Refusals.{isActive, planRefusal, Accepted}
 use Rattle.plan.proofs.Laws.Plan.{plan-fits}
 use Rattle.plan.proofs.Laws.Refusals.{accepted-of}
-use Rattle.powercut.specs.PowerCut.{Planner, scriptRecords, stateAfterPlan, powered, CutShort, between, inside, during, Recovers, PowerCutSafe}
-use Rattle.powercut.proofs.Laws.States.{standing, rest, is-rest}
-use Rattle.powercut.proofs.Laws.Safe.{Task, torn, safe-in-time, always-between, always-inside}
+use Rattle.powercut.specs.PowerCut.{Planner, scriptRecords, stateAfterPlan, powered, CutShort, between, inside, during, Recovers, PowerCutSafe, Finished, PowerLost, BehindPlan, Ready}
+use Rattle.powercut.proofs.Laws.States.{standing, rest, is-rest, still-at-rest}
+use Rattle.powercut.proofs.Laws.Near.{near-bytes}
+use Rattle.powercut.proofs.Laws.Safe.{Task, Safe, torn, safe-in-time, always-between, always-inside}
 use Rattle.powercut.proofs.Laws.Run.{Ran}
 use Rattle.state.proofs.Laws.Power.{power-up-granted}
 use Rattle.powercut.proofs.Laws.Completes.{completes}
 use Rattle.powercut.proofs.Laws.PlanRun.{task, plan-ran}
-use Rattle.powercut.proofs.Laws.Recovery.{recovers}
+use Rattle.powercut.proofs.Laws.Recovery.{recovers, ready-again}
 
 -- the power goes and comes back: the call is granted
 powered-is : (chip : Device) → Sound (chip .state) → powered chip ≡ withState chip (poweredUp (chip .state))
@@ -55,34 +58,71 @@ module _ (given : Device) (bp : ℕ) (wel armed : Bool) (wp : Bool) (start : ℕ
   ran : Ran t (stateAfterPlan plan (chip .state)) (start + length wanted) plan chip
   ran = plan-ran given bp wel armed wp start wanted room bytes accepted
 
-  after-cut : (after : Device) → CutShort plan wp chip after → Recovers planRecords wp (chip .array) start wanted (room + 22) after
-  after-cut after (between rs ss e) =
+  -- what holds of every chip that a cut may meet, powered up, holds behind every cut
+  cut-by : (P : Device → Type 0) → ((met : Device) → Safe t met → P (withState met (poweredUp (met .state)))) → (after : Device) → CutShort plan wp chip after → P after
+  cut-by P holds after (between rs ss e) =
       let safe = always-between t rs ss chip (rw e at (ran .always)) in
-      rw (powered-is (run wp rs chip) (safe .sound)) (recovers given bp wel armed wp start wanted room bytes accepted (run wp rs chip) safe)
-  after-cut after (inside rs ss f mask output e masked good) =
+      rw (powered-is (run wp rs chip) (safe .sound)) (holds (run wp rs chip) safe)
+  cut-by P holds after (inside rs ss f mask output e masked good) =
       let met : Device = run wp rs chip in
       let cut = cut-accepted wp f met output mask (cut-number-accepted wp f met output mask good) record { device-is = refl; output-is = refl } .device-is in
-      rw (← cut, torn-is wp f met mask)
-      (recovers given bp wel armed wp start wanted room bytes accepted (torn t f mask met) (always-inside t rs ss f chip (rw e at (ran .always)) mask masked))
-  after-cut after (during rs ss n m e part) =
+      rw (← cut, torn-is wp f met mask) (holds (torn t f mask met) (always-inside t rs ss f chip (rw e at (ran .always)) mask masked))
+  cut-by P holds after (during rs ss n m e part) =
       let met : Device = run wp rs chip in
       let safe = always-between t rs (wait n ∷ ss) chip (rw e at (ran .always)) in
       let then = safe-in-time t m met safe in
       rw (pass-time-granted (met .state) m (safe .sound), powered-is (withState met (timePassed (met .state) m)) (then .sound))
-      (recovers given bp wel armed wp start wanted room bytes accepted (withState met (timePassed (met .state) m)) then)
+      (holds (withState met (timePassed (met .state) m)) then)
 
   safe-at-rest : PowerCutSafe planRecords wp chip start wanted room
-  safe-at-rest = record { uncut = completes given bp wel armed wp start wanted room bytes accepted; cut = after-cut }
+  safe-at-rest = record {
+    uncut = completes given bp wel armed wp start wanted room bytes accepted;
+    cut = cut-by (Recovers planRecords wp (chip .array) start wanted (room + 22)) (recovers given bp wel armed wp start wanted room bytes accepted);
+  }
 
--- any accepted plan
+  -- the chip is ready for the next plan: behind a cut, and at the end
+  cut-ready : (after : Device) → CutShort plan wp chip after → Ready (chip .state .chip) after
+  cut-ready = cut-by (Ready (chip .state .chip)) (ready-again given bp wel armed wp start wanted room bytes accepted)
+
+  end-ready : (after : Device) → after ≡ run wp plan chip → Ready (chip .state .chip) after
+  unfolding isActive
+  end-ready after e =
+      let safe = ran .safe in
+      rw e
+      record {
+        same-chip = safe .held .same-chip;
+        sound = of-sound (run wp plan chip .state) (safe .sound);
+        at-rest = rw (ran .ends) (still-at-rest (given .state) bp wel armed plan (λ (s : State). isActive s ≡ false) (λ w a. refl));
+        sized = safe .near .same-length ∙ rw (safe .held .same-chip) (accepted .region .sized);
+        bytes = near-bytes (given .array) (wantedAt start wanted) (run wp plan chip .array) (safe .near) bytes;
+      }
+
+-- any accepted plan is made for a chip at rest: what holds of those
+module _ (wp : Bool) (chip : Device) (start : ℕ) (wanted : List ℕ) (room : ℕ) (e : planRefusal (chip .state) wp (chip .array) start wanted room ≡ 0) where
+  at-rest-by : (P : Device → Type 0)
+      → ((bp : ℕ) (wel armed : Bool) → Accepted (rest (chip .state) bp wel armed) wp (chip .array) start wanted room → P (standing chip (rest (chip .state) bp wel armed) (chip .array)))
+      → P chip
+  at-rest-by P holds =
+      let s = chip .state in
+      let a = accepted-of s (chip .array) start wanted wp room e in
+      let r = is-rest s (sound-of s (a .region .sound)) (a .region .ready) (a .region .no-aai) (a .region .awake) in
+      subst (λ (x : State). P (standing chip x (chip .array))) (sym r)
+      (holds (s .bp) (s .wel) (s .armed) (subst (λ (x : State). Accepted x wp (chip .array) start wanted room) r a))
+
 pub power-cut-safe : (wp : Bool) (chip : Device) (start : ℕ) (wanted : List ℕ) (room : ℕ) → Bytes (chip .array)
     → planRefusal (chip .state) wp (chip .array) start wanted room ≡ 0 → PowerCutSafe planRecords wp chip start wanted room
 power-cut-safe wp chip start wanted room bytes e =
-    let s = chip .state in
-    let a = accepted-of s (chip .array) start wanted wp room e in
-    let r = is-rest s (sound-of s (a .region .sound)) (a .region .ready) (a .region .no-aai) (a .region .awake) in
-    subst (λ (x : State). PowerCutSafe planRecords wp (standing chip x (chip .array)) start wanted room) (sym r)
-    (safe-at-rest chip (s .bp) (s .wel) (s .armed) wp start wanted room bytes (subst (λ (x : State). Accepted x wp (chip .array) start wanted room) r a))
+    at-rest-by wp chip start wanted room e (λ (d : Device). PowerCutSafe planRecords wp d start wanted room)
+    (λ bp wel armed a. safe-at-rest chip bp wel armed wp start wanted room bytes a)
+
+-- behind it, finished or cut, the chip is ready for the next plan
+pub behind-ready : (wp : Bool) (chip : Device) (start : ℕ) (wanted : List ℕ) (room : ℕ) → Bytes (chip .array)
+    → planRefusal (chip .state) wp (chip .array) start wanted room ≡ 0 → (after : Device) → BehindPlan wp chip start wanted after
+    → Ready (chip .state .chip) after
+unfolding Finished PowerLost
+behind-ready wp chip start wanted room bytes e after behind =
+    at-rest-by wp chip start wanted room e (λ (d : Device). BehindPlan wp d start wanted after → Ready (d .state .chip) after)
+    (λ bp wel armed a. ⊎-elim (end-ready chip bp wel armed wp start wanted room bytes a after) (cut-ready chip bp wel armed wp start wanted room bytes a after)) behind
 
 -- every frame of such a plan can be cut with every mask of the length that it wants: there is an output that the call accepts
 pub cut-anywhere : (wp : Bool) (chip : Device) (start : ℕ) (wanted : List ℕ) (room : ℕ) → Bytes (chip .array)

@@ -22,10 +22,10 @@ use Rattle.frame.specs.Device.{Device, withState}
 use Rattle.region.specs.Region.{wantedAt, changes}
 use Rattle.region.proofs.Laws.Region.{change-in-region}
 use Rattle.plan.specs.Plan.{stepOneNeeded, planRecords}
-use Rattle.plan.specs.Refusals.{Accepted}
+use Rattle.plan.specs.Refusals.{isActive, Accepted}
 use Rattle.plan.proofs.Laws.Steps.{not-needed-free, free-not-needed}
 use Rattle.plan.proofs.Laws.Refusals.{of-accepted}
-use Rattle.powercut.specs.PowerCut.{Recovers}
+use Rattle.powercut.specs.PowerCut.{Recovers, Ready}
 use Rattle.powercut.proofs.Laws.States.{standing, rest}
 use Rattle.powercut.proofs.Laws.Near.{near-bytes}
 use Rattle.powercut.proofs.Laws.Safe.{Task, Safe}
@@ -119,4 +119,18 @@ module _ (given : Device) (bp : ℕ) (wel armed : Bool) (wp : Bool) (start : ℕ
           completes = rw (← (updated-same array start wanted bytes now (safe .near)))
               (completes (standing d again now) (woken .bp) false false wp start wanted (room + 22) (near-bytes array (wantedAt start wanted) now (safe .near) bytes)
               (accepted-again (room + 22) (le-refl (room + 22))));
+        }
+
+    -- and the chip is ready for any other plan
+    pub ready-again : Ready (s .chip) (withState d (poweredUp (d .state)))
+    unfolding isActive
+    ready-again =
+        let a = accepted-again (room + 22) (le-refl (room + 22)) .region in
+        rw (woken .is)
+        record {
+          same-chip = safe .held .same-chip;
+          sound = a .sound;
+          at-rest = refl;
+          sized = a .sized;
+          bytes = near-bytes array (wantedAt start wanted) now (safe .near) bytes;
         }

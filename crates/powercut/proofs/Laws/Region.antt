@@ -14,23 +14,13 @@ use Rattle.common.proofs.Laws.Lists.{split, length-mapi, getD-mapi}
 use Rattle.common.specs.Bits.{Bytes}
 use Rattle.common.proofs.Laws.Bits.{and-full}
 use Rattle.common.proofs.Laws.Places.{within-bounds}
-use Rattle.region.specs.Region.{wantedAt, changes, rises, anyOf}
+use Rattle.region.specs.Region.{wantedAt, changes, wantsRise}
 use Rattle.common.specs.Lists.{within}
-use Rattle.region.proofs.Laws.Region.{wanted-in, wanted-out, change-in-region, change-differs, no-change-outside, no-change-as-wanted, rises-same, any-false, any-none, nothing-rises}
+use Rattle.region.proofs.Laws.Region.{wanted-in, wanted-out, change-in-region, change-differs, no-change-outside, no-change-as-wanted, wants-rise-same, nothing-rises}
 use Rattle.powercut.specs.PowerCut.{updated, Partway}
 use Rattle.powercut.proofs.Laws.Between.{between-bit}
+use Rattle.powercut.proofs.Laws.Updated.{updated-at, updated-length}
 use Rattle.powercut.proofs.Laws.Near.{Near, Settled, settled-start, settled-same, settled-value}
-
--- ---- the array once the update is done
-
-pub updated-at : (array : List ℕ) (start : ℕ) (wanted : List ℕ) (k : ℕ) → k < length array
-    → getD (updated array start wanted) k 0 ≡ cond (within start (length wanted) k) (getD wanted (k - start) 0) (getD array k 0)
-unfolding updated
-updated-at array start wanted k h = getD-mapi _ array k 0 h
-
-updated-length : (array : List ℕ) (start : ℕ) (wanted : List ℕ) → length (updated array start wanted) ≡ length array
-unfolding updated
-updated-length array start wanted = length-mapi _ array
 
 -- ---- an array on its way
 
@@ -75,12 +65,10 @@ module _ (array : List ℕ) (start : ℕ) (wanted : List ℕ) (bytes : Bytes arr
           let l = in-array k i in
           absurd (change-differs now start wanted k e (settled-same array w now near k l (calm k h l) ∙ no-change-as-wanted array start wanted k i h)))
 
-      module _ (falls : anyOf (rises array start wanted) (length wanted) start ≡ false) where
+      module _ (falls : wantsRise array start wanted ≡ false) where
         -- no wanted bit has been lost
-        pub falls-still : anyOf (rises now start wanted) (length wanted) start ≡ false
-        falls-still =
-            any-none (rises now start wanted) (length wanted) start
-            (λ k h l. rises-same now array start wanted k (near .each k (omega arith) .over) ∙ any-false (rises array start wanted) (length wanted) start k falls h l)
+        pub falls-still : wantsRise now start wanted ≡ false
+        falls-still = wants-rise-same now array start wanted (λ k h l. near .each k (omega arith) .over) falls
 
         -- all is settled: the update is complete
         pub complete : ((k : ℕ) → k < length array → Settled w now k) → now ≡ updated array start wanted

@@ -24,9 +24,9 @@ use Rattle.common.proofs.Laws.Bits.{bytes-within}
 use Rattle.frame.specs.Device.{Device}
 use Rattle.run.specs.Run.{run}
 use Rattle.run.proofs.Laws.Trace.{stateBehind, traced}
-use Rattle.region.specs.Region.{wantedAt, changes, rises, anyOf}
+use Rattle.region.specs.Region.{wantedAt, changes, rises, anyOf, wantsRise}
 use Rattle.plan.specs.Plan.{stepOneNeeded, planRecords}
-use Rattle.plan.specs.Refusals.{planRefusal}
+use Rattle.plan.specs.Refusals.{isActive, isLocked, bytesNeeded, planRefusal}
 use Rattle.powercut.specs.PowerCut.{powered, waited, CutShort, between, during, PowerCutSafe}
 use Rattle.powercut.proofs.Laws.States.{standing}
 use Rattle.powercut.proofs.Laws.PowerCut.{power-cut-safe}
@@ -43,12 +43,12 @@ pub record Just (s : State) (wp : Bool) (array : List ℕ) (start : ℕ) (wanted
 module _ (wp : Bool) (array : List ℕ) (sized : length array ≡ 1048576) (byte : getD array 0x12345 0 ≡ 0xff) where
   -- 26 bytes
   pub words-open : Just (atRest 8 0 false false) wp array 0x12345 fe 25
-  unfolding planRefusal stepOneNeeded isSound isKnown chipOf firstProtected rises anyOf changes wantedAt within encode encodeRecord
+  unfolding planRefusal isActive isLocked bytesNeeded stepOneNeeded isSound isKnown chipOf firstProtected wantsRise rises anyOf changes wantedAt within encode encodeRecord
   words-open = let p = Samples.words-open array byte in record { enough = rw (p, sized, byte) refl; too-little = rw (p, sized, byte) refl }
 
   -- 48 bytes
   pub words-protected : Just (atRest 8 7 false false) wp array 0x12345 fe 47
-  unfolding planRefusal stepOneNeeded isSound isKnown chipOf firstProtected rises anyOf changes wantedAt within encode encodeRecord
+  unfolding planRefusal isActive isLocked bytesNeeded stepOneNeeded isSound isKnown chipOf firstProtected wantsRise rises anyOf changes wantedAt within encode encodeRecord
   words-protected = let p = Samples.words-protected array byte in record { enough = rw (p, sized, byte) refl; too-little = rw (p, sized, byte) refl }
 
 -- ---- the F25L05PA
@@ -56,12 +56,12 @@ module _ (wp : Bool) (array : List ℕ) (sized : length array ≡ 1048576) (byte
 module _ (wp : Bool) (array : List ℕ) (sized : length array ≡ 65536) (byte : getD array 0x1234 0 ≡ 0xff) where
   -- 20 bytes
   pub page-open : Just (atRest 5 0 false false) wp array 0x1234 fe 19
-  unfolding planRefusal stepOneNeeded isSound isKnown chipOf firstProtected rises anyOf changes wantedAt within encode encodeRecord
+  unfolding planRefusal isActive isLocked bytesNeeded stepOneNeeded isSound isKnown chipOf firstProtected wantsRise rises anyOf changes wantedAt within encode encodeRecord
   page-open = let p = Samples.page-open array byte in record { enough = rw (p, sized, byte) refl; too-little = rw (p, sized, byte) refl }
 
   -- 42 bytes
   pub page-protected : Just (atRest 5 1 false false) wp array 0x1234 fe 41
-  unfolding planRefusal stepOneNeeded isSound isKnown chipOf firstProtected rises anyOf changes wantedAt within encode encodeRecord
+  unfolding planRefusal isActive isLocked bytesNeeded stepOneNeeded isSound isKnown chipOf firstProtected wantsRise rises anyOf changes wantedAt within encode encodeRecord
   page-protected = let p = Samples.page-protected array byte in record { enough = rw (p, sized, byte) refl; too-little = rw (p, sized, byte) refl }
 
 -- ---- erased chips

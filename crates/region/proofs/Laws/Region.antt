@@ -13,7 +13,7 @@ use Rattle.common.specs.Lists.{within}
 use Rattle.common.proofs.Laws.Choice.{cases}
 use Rattle.common.proofs.Laws.Booleans.{and-l, and-r, and-off, and-none, or-none-l, or-none-r}
 use Rattle.common.proofs.Laws.Places.{within-bounds, within-yes, within-below, within-above}
-use Rattle.region.specs.Region.{wantedAt, changes, rises, anyOf}
+use Rattle.region.specs.Region.{wantedAt, changes, rises, anyOf, wantsRise}
 
 -- ---- an address and the region
 
@@ -120,12 +120,27 @@ module _ (test : ℕ → Bool) (n i a : ℕ) where
   any-end h = let none : n - i ≡ 0 = omega arith in rw none refl
 
 -- "a wanted 1 where the array has 0": there is none
-pub nothing-rises : (array : List ℕ) (start : ℕ) (wanted : List ℕ) → anyOf (rises array start wanted) (length wanted) start ≡ false
+pub nothing-rises : (array : List ℕ) (start : ℕ) (wanted : List ℕ) → wantsRise array start wanted ≡ false
     → (address : ℕ) → within start (length wanted) address ≡ true
     → bitAnd (getD array address 0) (wantedAt start wanted address) ≡ wantedAt start wanted address
-unfolding rises
+unfolding rises wantsRise
 nothing-rises array start wanted e address i =
     let b = within-bounds start (length wanted) address i in
     eqb-true _ _
     (not-false (eqb (bitAnd (getD array address 0) (wantedAt start wanted address)) (wantedAt start wanted address))
     (any-false (rises array start wanted) (length wanted) start address e (b .0) (b .1)))
+
+pub wants-none : (array : List ℕ) (start : ℕ) (wanted : List ℕ)
+    → ((address : ℕ) → start ≤ address → address < start + length wanted → rises array start wanted address ≡ false) → wantsRise array start wanted ≡ false
+unfolding wantsRise
+wants-none array start wanted h = any-none (rises array start wanted) (length wanted) start h
+
+-- there is still none, where what ANDing leaves is the same
+pub wants-rise-same : (now array : List ℕ) (start : ℕ) (wanted : List ℕ)
+    → ((address : ℕ) → start ≤ address → address < start + length wanted
+    → bitAnd (getD now address 0) (wantedAt start wanted address) ≡ bitAnd (getD array address 0) (wantedAt start wanted address))
+    → wantsRise array start wanted ≡ false → wantsRise now start wanted ≡ false
+unfolding wantsRise
+wants-rise-same now array start wanted same falls =
+    wants-none now start wanted
+    (λ k h l. rises-same now array start wanted k (same k h l) ∙ any-false (rises array start wanted) (length wanted) start k falls h l)

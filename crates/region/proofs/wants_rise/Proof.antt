@@ -7,7 +7,7 @@ use native.Mathlib.Nat.{add-zero, sub-zero}
 use native.Mathlib.Omega.{arith}
 use lib.ListN.{length}
 use borrow.Author.Tests.{eq-eqb, ne-eqb}
-use Rattle.region.specs.Region.{rises, anyOf}
+use Rattle.region.specs.Region.{rises, anyOf, wantsRise}
 use Rattle.region.proofs.Laws.Region.{any-found, any-turn, any-end, rises-at}
 use Rattle.region.proofs.wants_rise.Statement.{statement}
 use Rattle.region.proofs.wants_rise.Tie as tie
@@ -34,6 +34,7 @@ shared-slice-read-if1-3 : tie.Need-shared-slice-read-if1-3 Inv-loop μ-loop
 shared-slice-read-if1-3 c = omega arith
 
 returns : tie.Need-returns Inv-loop μ-loop
+unfolding wantsRise
 returns c =
     let p = c .before .before .before .before .before in
     let h = c .before .before .before .before .loop-test .taken in
@@ -52,6 +53,7 @@ loop-again c =
     (omega arith, sym (any-turn _ _ _ _ h (rises-at _ _ _ _ h ∙ ap not (eq-eqb _ _ (c .if1 .left)))) ∙ p .loop .inv .1)
 
 returns-2 : tie.Need-returns-2 Inv-loop μ-loop
+unfolding wantsRise
 returns-2 c = sym (any-end _ _ _ _ (c .loop-test .left)) ∙ c .before .loop .inv .1
 
 pub wants-rise-spec : {M : Type 1} → statement M

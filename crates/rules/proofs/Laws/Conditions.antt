@@ -6,13 +6,10 @@ use mathlib.Core.List.{List}
 use mathlib.Core.Logic.{inl, inr, ⊎-elim}
 use Prim.Native.Nat.{ℕ, _+_, _-_, _≤_, _<_}
 use native.Mathlib.Omega.{arith}
-use lib.Bits.{bitAnd, and-comm}
 use lib.Dec.{leb, ltb, eqb}
 use lib.ListN.{length, getD}
 use borrow.Author.Tests.{eqb-true, eqb-false, ne-eqb, leb-true, leb-false, not-true, not-false}
-use Rattle.common.specs.Bits.{Bytes}
 use Rattle.common.specs.Limits.{longestWanted}
-use Rattle.common.proofs.Laws.Bits.{NoRise, no-rise-bit, some-rise}
 use Rattle.common.proofs.Laws.Booleans.{and-l, and-r, and-i, and-off, not-i}
 use Rattle.common.proofs.Laws.Choice.{cases}
 use Rattle.common.proofs.Laws.Places.{within-bounds, Passing, some-passes}
@@ -22,9 +19,10 @@ use Rattle.state.specs.State.{dataOf}
 use Rattle.state.specs.Protection.{firstProtected}
 use Rattle.state.specs.Soundness.{isSound, isBusy}
 use Rattle.state.proofs.Laws.Soundness.{sound-of}
-use Rattle.region.specs.Region.{changes, rises, anyOf}
-use Rattle.region.proofs.Laws.Region.{change-in-region, changes-at, rises-at, any-false, any-none}
+use Rattle.region.specs.Region.{changes}
+use Rattle.region.proofs.Laws.Region.{change-in-region, changes-at}
 use Rattle.plan.specs.Plan.{stepOneNeeded}
+use Rattle.plan.specs.Refusals.{isActive, isLocked}
 use Rattle.plan.proofs.Laws.Steps.{not-needed-free, free-not-needed}
 use Rattle.rules.specs.Conditions.{
   NotSound,
@@ -32,7 +30,6 @@ use Rattle.rules.specs.Conditions.{
   WrongArray,
   WrongRegion,
   NotAtRest,
-  WantedRises,
   StatusLocked,
 }
 use Rattle.rules.proofs.Laws.Chips.{data-by-chip}
@@ -57,7 +54,8 @@ module _ (s : State) (sound : isSound s ≡ true) where
       rw size-is
       (means-or (ltb longestWanted (length wanted)) (ltb (size s) (start + length wanted)) (means-less 4096 (length wanted)) (means-less (size s) (start + length wanted)))
 
-pub means-not-at-rest : (s : State) → Exactly (isBusy s || s .aai || s .«power_down» ≡ true) (NotAtRest s)
+pub means-not-at-rest : (s : State) → Exactly (isActive s ≡ true) (NotAtRest s)
+unfolding isActive
 means-not-at-rest s =
     let two = means-or (isBusy s || s .aai) (s .«power_down»)
     (means-or (isBusy s) (s .aai) (means-less 0 (s .left)) record { when = λ e. e; only-when = λ e. e }) record { when = λ e. e; only-when = λ e. e } in
@@ -66,7 +64,7 @@ means-not-at-rest s =
       only-when = λ w. two .only-when (⊎-elim (λ b. inl (inl b)) (λ o. ⊎-elim (λ a. inl (inr a)) (λ p. inr p) o) w);
     }
 
--- ---- 8: "a wanted 1 where the array has 0"
+-- ---- 9: "step 1 needed, BPL 1, WP low"
 
 module _ (array : List ℕ) (start : ℕ) (wanted : List ℕ) where
   abbrev new : ℕ → ℕ
@@ -74,42 +72,6 @@ module _ (array : List ℕ) (start : ℕ) (wanted : List ℕ) where
 
   abbrev old : ℕ → ℕ
   old place = getD array (start + place) 0
-
-  abbrev anyRises : Bool
-  anyRises = anyOf (rises array start wanted) (length wanted) start
-
-  -- an address of the region, by its place
-  placed : (test : ℕ → Bool) → ((i : ℕ) → i < length wanted → test (start + i) ≡ false)
-      → (address : ℕ) → start ≤ address → address < start + length wanted → test address ≡ false
-  placed test none address h l =
-      let is : start + (address - start) ≡ address = omega arith in rw is at (none (address - start) (omega arith))
-
-  risen : Bytes wanted → Passing (λ i. rises array start wanted (start + i)) (length wanted) → WantedRises array start wanted
-  risen bytes p =
-      let lost = eqb-false (bitAnd (old (p .place)) (new (p .place))) (new (p .place))
-      (not-true (eqb (bitAnd (old (p .place)) (new (p .place))) (new (p .place))) (sym (rises-at array start wanted (p .place) (p .below)) ∙ p .passes)) in
-      let rise = some-rise 8 (old (p .place)) (new (p .place)) (bytes (p .place)) (λ h. lost (and-comm (old (p .place)) (new (p .place)) ∙ h)) in
-      record { place = p .place; bit = rise .place; inside = p .below; wanted-1 = rise .wanted; array-0 = rise .missing }
-
-  -- where the test finds none, no bit rises
-  none-risen : anyRises ≡ false → WantedRises array start wanted → ⊥
-  none-risen e w =
-      let at = w .place in
-      let falls = sym (rises-at array start wanted at (w .inside))
-      ∙ any-false (rises array start wanted) (length wanted) start (start + at) e (omega arith) (omega (arith, w .inside)) in
-      let kept : NoRise (old at) (new at) =
-      and-comm (new at) (old at) ∙ eqb-true (bitAnd (old at) (new at)) (new at) (not-false (eqb (bitAnd (old at) (new at)) (new at)) falls) in
-      omega (arith, w .wanted-1, no-rise-bit (old at) (new at) (w .bit) kept (w .array-0))
-
-  pub means-rises : Bytes wanted → Exactly (anyRises ≡ true) (WantedRises array start wanted)
-  means-rises bytes = record {
-    when = λ e. ⊎-elim (λ p. risen bytes p)
-        (λ none. absurd (true≢false (sym e ∙ any-none (rises array start wanted) (length wanted) start (placed (rises array start wanted) none))))
-        (some-passes (λ i. rises array start wanted (start + i)) (length wanted));
-    only-when = λ w. cases anyRises (λ t. t) (λ f. absurd (none-risen f w));
-  }
-
-  -- ---- 9: "step 1 needed, BPL 1, WP low"
 
   module _ (s : State) (wp : Bool) where
     abbrev needed : Bool
@@ -127,7 +89,8 @@ module _ (array : List ℕ) (start : ℕ) (wanted : List ℕ) where
             let is : start + (k - start) ≡ k = omega (arith, b .0) in
             leb-false (firstProtected s) k (and-off (changes array start wanted k) (leb (firstProtected s) k) (rw is at (none (k - start) (omega (arith, b .0, b .1)))) c)
 
-    pub means-locked : Exactly (needed && s .bpl && not wp ≡ true) (StatusLocked s wp array start wanted)
+    pub means-locked : Exactly (isLocked s wp array start wanted ≡ true) (StatusLocked s wp array start wanted)
+    unfolding isLocked
     means-locked = record {
       when = λ e.
           let two = and-l (needed && s .bpl) (not wp) e in

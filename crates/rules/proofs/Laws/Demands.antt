@@ -23,7 +23,7 @@ use Rattle.script.proofs.Laws.Values.{record-at-answered}
 use Rattle.run.specs.declared.Ran.{Ran}
 use Rattle.run.specs.Script.{scriptNumber, scriptDevice, scriptOutput, scriptCount, scriptOffset, ScriptRun}
 use Rattle.run.proofs.Laws.Script.{run-script-determined}
-use Rattle.plan.specs.declared.Planned.{Planned}
+use Rattle.state.specs.declared.Planned.{Planned}
 use Rattle.plan.specs.Refusals.{planRefusal}
 use Rattle.plan.specs.Update.{givenRecords, atFront, PlanUpdated}
 use Rattle.plan.proofs.Laws.Update.{plan-update-determined}

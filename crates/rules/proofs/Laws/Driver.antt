@@ -3,6 +3,7 @@
 use mathlib.Core.Path.{_≡_, refl, sym, _∙_}
 use mathlib.Core.Bool.{Bool}
 use mathlib.Core.List.{List}
+use mathlib.Core.Logic.{inr}
 use Prim.Native.Nat.{ℕ}
 use lib.ListN.{length, take}
 use Rattle.common.specs.Bits.{Bytes}
@@ -10,11 +11,11 @@ use Rattle.script.specs.declared.reader.Found.the-variants.{End}
 use Rattle.script.specs.Reader.{recordAt}
 use Rattle.frame.specs.Device.{Device}
 use Rattle.run.proofs.Laws.Prefix.{RunTo, run-to-frame, run-to-wait}
-use Rattle.plan.specs.declared.Planned.{Planned}
+use Rattle.state.specs.declared.Planned.{Planned}
 use Rattle.plan.specs.Update.{PlanUpdated}
 use Rattle.powercut.specs.PowerCut.{Finished, PowerLost}
 use Rattle.powercut.proofs.Laws.Calls.{plan-begun, accepted-run-finished, next-is-read, next-frame-accepted, all-run-finished, power-up-lost, cut-frame-lost, cut-wait-lost}
-use Rattle.powercut.proofs.Laws.Promises.{promises-kept, planned-again}
+use Rattle.promises.proofs.Laws.Promises.{promises-kept}
 use Rattle.rules.specs.Driver.{SentTo, none, sends, waits, CutAt, between, inside, during}
 use Rattle.rules.specs.Demands.{NoCutHurts}
 
@@ -53,12 +54,8 @@ no-cut-hurts wp chip start wanted buffer after planned bytes plans good =
           next-is-read wp chip start wanted buffer after planned plans good at met (run-to wp chip start wanted buffer after planned plans good sent);
       each-accepted = λ at begin n next met output sent e long.
           next-frame-accepted wp chip start wanted buffer after planned plans good at met (run-to wp chip start wanted buffer after planned plans good sent) e output long;
-      cut = λ lost c. record {
-        same-length = kept .kept-length lost (lost-by lost c);
-        region = kept .bits lost (lost-by lost c);
-        outside = kept .outside lost (lost-by lost c);
-      };
-      again = λ lost room written answer c enough again. planned-again kept lost (lost-by lost c) again enough;
+      cut = λ lost c. kept .partway lost (inr (lost-by lost c));
+      again = λ lost room written answer c enough again. again .number ∙ kept .again lost (lost-by lost c) (length room) enough;
       finished = λ lost room written answer at next met c again accepted sent e.
           kept .completed lost met (lost-by lost c) (sent-finished wp lost start wanted room written answer again accepted sent e);
       uncut = λ at next met sent e. kept .finished met (sent-finished wp chip start wanted buffer after planned plans good sent e);

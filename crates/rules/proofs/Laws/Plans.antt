@@ -6,9 +6,7 @@ use mathlib.Core.List.{List, [], _++_, append-nil}
 use Prim.Native.Nat.{ℕ, _+_, _-_}
 use native.Mathlib.Omega.{arith}
 use lib.ListN.{length, getD, take, drop, length-append, length-drop}
-use lib.Dec.{eqb}
 use lib.Seq.{take-append-seam, drop-append-seam}
-use borrow.Author.Tests.{eqb-true, not-false}
 use Rattle.common.proofs.Laws.Choice.{cases}
 use Rattle.chip.specs.declared.Chip.{Chip}
 use Rattle.chip.proofs.Laws.Chip.{chip-of-8, chip-of-5}
@@ -17,9 +15,7 @@ use Rattle.state.specs.State.{dataOf}
 use Rattle.state.proofs.Laws.Soundness.{sound-of}
 use Rattle.script.specs.Record.{Record, encode}
 use Rattle.script.specs.Decode.{decode}
-use Rattle.region.specs.Region.{changes}
-use Rattle.region.proofs.Laws.Region.{changes-at}
-use Rattle.plan.specs.declared.Planned.{Planned}
+use Rattle.state.specs.declared.Planned.{Planned}
 use Rattle.plan.specs.Plan.{stepOneNeeded, statusRecords, programStep, planRecords}
 use Rattle.plan.specs.Refusals.{RegionAccepted, Accepted}
 use Rattle.plan.specs.Update.{PlanUpdated}
@@ -29,30 +25,14 @@ use Rattle.plan.proofs.Laws.Refusals.{accepted-of, accepted-inside}
 use Rattle.plan.proofs.Laws.Update.{plan-given}
 use Rattle.rules.specs.PlanWords.{WordsStep}
 use Rattle.rules.specs.PlanPages.{PagesStep}
-use Rattle.rules.specs.Plans.{PlanWritten, NothingChanges, PlanSteps, PlanRules}
+use Rattle.rules.specs.Plans.{PlanWritten, PlanSteps, PlanRules}
 use Rattle.rules.proofs.Laws.Running.{counted}
-use Rattle.rules.proofs.Laws.Sent.{changing-of}
 use Rattle.rules.proofs.Laws.PlanStatus.{protected-needed, none-not-needed, status-frames}
 use Rattle.rules.proofs.Laws.PlanWords.{words-step}
 use Rattle.rules.proofs.Laws.PlanPages.{pages-step}
 use Rattle.rules.proofs.Laws.PlanDetermined.{plan-steps-determined}
 
 module _ (s : State) (array : List ℕ) (start : ℕ) (wanted : List ℕ) where
-  -- ---- whether anything changes
-
-  nothing-of : NothingChanges array start wanted → (k : ℕ) → changes array start wanted k ≡ false
-  nothing-of h k =
-      cases (changes array start wanted k)
-      (λ t. let c = changing-of array start wanted k t in
-      let e : start + (k - start) ≡ k = omega (arith, c .from) in
-      absurd (c .differs (rw e at (h (k - start) (omega (arith, c .from, c .below))))))
-      (λ f. f)
-
-  of-nothing : ((k : ℕ) → changes array start wanted k ≡ false) → NothingChanges array start wanted
-  of-nothing h i l =
-      eqb-true (getD array (start + i) 0) (getD wanted i 0)
-      (not-false (eqb (getD array (start + i) 0) (getD wanted i 0)) (sym (changes-at array start wanted i l) ∙ h (start + i)))
-
   -- ---- the four steps
 
   abbrev programs : List Record
@@ -75,8 +55,8 @@ module _ (s : State) (array : List ℕ) (start : ℕ) (wanted : List ℕ) where
         let empty = plan-empty-exactly s array start wanted in
         cases (stepOneNeeded s array start wanted)
         (λ t. record {
-          changing-nothing = λ h. empty .only-when (nothing-of h);
-          empty-changes-nothing = λ e. of-nothing (empty .when e);
+          changing-nothing = empty .only-when;
+          empty-changes-nothing = empty .when;
           before = statusRecords s 0;
           program = programs;
           after = statusRecords s (s .bp);
@@ -89,8 +69,8 @@ module _ (s : State) (array : List ℕ) (start : ℕ) (wanted : List ℕ) where
           no-step-4 = λ h. absurd (true≢false (sym t ∙ none-not-needed s array start wanted h));
         })
         (λ f. record {
-          changing-nothing = λ h. empty .only-when (nothing-of h);
-          empty-changes-nothing = λ e. of-nothing (empty .when e);
+          changing-nothing = empty .only-when;
+          empty-changes-nothing = empty .when;
           before = [];
           program = programs;
           after = [];

@@ -31,9 +31,10 @@ use Rattle.run.specs.declared.Ran.{Ran}
 use Rattle.run.specs.Script.{scriptRefusals, scriptNumber, scriptOffset, ScriptRun}
 use Rattle.run.proofs.Laws.Accepted.{script-exactly, carried-surveyed, offset-surveyed, offset-only}
 use Rattle.run.proofs.Laws.Script.{script-refused, run-script-determined}
-use Rattle.plan.specs.declared.Planned.{Planned}
+use Rattle.state.specs.declared.Planned.{Planned}
+use Rattle.region.proofs.Laws.Words.{rises-exactly}
 use Rattle.plan.specs.Plan.{planRecords}
-use Rattle.plan.specs.Refusals.{planRefusals}
+use Rattle.plan.specs.Refusals.{bytesNeeded, planRefusals}
 use Rattle.plan.specs.Update.{PlanUpdated}
 use Rattle.plan.proofs.Laws.Refusals.{refused-exactly}
 use Rattle.plan.proofs.Laws.Update.{refused-untouched}
@@ -50,7 +51,7 @@ use Rattle.rules.specs.Refusals.{
 }
 use Rattle.rules.proofs.Laws.Tests.{means-equal, means-less, means-not, means-or}
 use Rattle.rules.proofs.Laws.Numbered.{row, numbered, first-exactly}
-use Rattle.rules.proofs.Laws.Conditions.{means-not-sound, means-wrong-array, means-wrong-region, means-not-at-rest, means-rises, means-locked}
+use Rattle.rules.proofs.Laws.Conditions.{means-not-sound, means-wrong-array, means-wrong-region, means-not-at-rest, means-locked}
 use Rattle.rules.proofs.Laws.BadRecords.{means-bad-mark, means-bad-length, means-bad-cut, means-wrong-sum}
 use Rattle.rules.proofs.Laws.Survey.{means-carried, carries-none, survey-rules}
 
@@ -132,15 +133,16 @@ module _ (s : State) (wp : Bool) (array : List ℕ) (start : ℕ) (wanted buffer
   planRows = planRefusals s wp array start wanted (length buffer)
 
   pub plan-refusals : (run : PlanUpdated s wp array start wanted buffer after planned) → PlanRefusals s wp array start wanted buffer after planned bytes run
+  unfolding bytesNeeded
   plan-refusals run = record {
     numbers = numbered planRows _ (planned .number) refl (run .number ∙ first-exactly planRows _ (refused-exactly s array start wanted wp (length buffer)))
         (row (means-not-sound s) (λ _. refl)
         (λ sound. row (means-wrong-array s (not-false (isSound s) sound) array) (λ _. refl)
         (λ _. row (means-wrong-region s (not-false (isSound s) sound) start wanted) (λ _. refl)
         (λ _. row (means-not-at-rest s) (λ _. refl)
-        (λ _. row (means-rises array start wanted bytes) (λ _. refl)
+        (λ _. row (rises-exactly array start wanted bytes) (λ _. refl)
         (λ _. row (means-locked array start wanted s wp) (λ _. refl)
-        (λ _. row (means-less (length buffer) (length (encode (planRecords s array start wanted)))) (λ _. refl) (λ _. tt))))))));
+        (λ _. row (means-less (length buffer) (bytesNeeded s array start wanted)) (λ _. refl) (λ _. tt))))))));
     refusal-keeps = refused-untouched s wp array start wanted buffer after planned run;
   }
 

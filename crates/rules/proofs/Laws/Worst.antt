@@ -2,8 +2,8 @@
 -- Assumes nothing.
 use mathlib.Core.Path.{_≡_, sym, ap, _∙_}
 use mathlib.Core.Bool.{true}
-use Prim.Native.Nat.{ℕ, _+_}
-use native.Mathlib.Nat.{le-refl}
+use mathlib.Core.Logic.{inr}
+use Prim.Native.Nat.{ℕ}
 use lib.ListN.{length}
 use Rattle.chip.specs.declared.Chip.{Chip}
 use Rattle.chip.specs.Chip.{f25l008a, f25l05pa}
@@ -13,10 +13,10 @@ use Rattle.state.specs.Soundness.{isSound}
 use Rattle.state.proofs.Laws.Soundness.{sound-of}
 use Rattle.script.specs.declared.measure.Measure.{Measure}
 use Rattle.plan.proofs.Laws.Refusals.{accepted-of, too-short-of}
-use Rattle.worst.specs.Worst.{worstOf}
+use Rattle.worst.specs.Worst.{worstOf, roomEnough}
 use Rattle.worst.proofs.Laws.Worst.{plan-worst, worst-room}
 use Rattle.worst.proofs.Laws.Reached.{worst-reached}
-use Rattle.powercut.proofs.Laws.Promises.{promises-kept, planned-again-in-worst}
+use Rattle.promises.proofs.Laws.Promises.{promises-kept}
 use Rattle.rules.specs.Chips.{byChip}
 use Rattle.rules.specs.Worst.{worstBytes, WorstRules}
 use Rattle.rules.proofs.Laws.Chips.{data-by-chip}
@@ -30,6 +30,7 @@ worst-bytes : (s : State) → isSound s ≡ true → worstOf (dataOf s) .length 
 worst-bytes s sound = worst-by-chip s sound (λ (m : Measure). m .length)
 
 pub worst-rules : WorstRules
+unfolding roomEnough
 worst-rules = record {
   not-above = λ s wp array start wanted buffer after r plans good.
       let sound = accepted-of s array start wanted wp (length buffer) (sym (plans .number) ∙ good) .region .sound in
@@ -45,9 +46,8 @@ worst-rules = record {
   again = λ wp chip start wanted buffer after planned bytes plans good lost room written answer cut plans-again large.
       let kept = promises-kept wp chip start wanted (length buffer) bytes (sym (plans .number) ∙ good) in
       let met = cut-lost wp chip start wanted buffer after planned plans good cut in
-      let more : ℕ = length buffer + 22 in
-      let sound = accepted-of (lost .state) (lost .array) start wanted wp more (kept .again lost met more (le-refl more)) .region .sound in
-      planned-again-in-worst kept lost met plans-again (rw (worst-bytes (lost .state) sound) large);
+      let sound = kept .ready lost (inr met) .sound in
+      plans-again .number ∙ kept .again-in-worst lost met (length room) (rw (worst-bytes (lost .state) sound) large);
   reached = λ wp array buffer after r sized erased long plans.
       let at = worst-reached wp array sized erased in
       let is = at .amounts buffer after r long plans in (

@@ -3,7 +3,7 @@
 -- Assumes nothing.
 use mathlib.Core.Path.{_≡_, refl}
 use mathlib.Core.List.{List, [], _∷_, _++_, append-assoc}
-use Prim.Native.Nat.{ℕ, _+_, _/_, _%_, _≤_}
+use Prim.Native.Nat.{ℕ, _+_, _/_, _%_, _≤_, _<_}
 use native.Mathlib.Omega.{arith}
 use lib.ListN.{length, length-append}
 use Rattle.common.proofs.Laws.Each.{each-append, each-left, each-right}
@@ -88,6 +88,15 @@ pub encoded-length : (rs : List Record) → length (encode rs) ≡ scriptLength 
 unfolding encode scriptLength
 encoded-length [] = refl
 encoded-length (r ∷ rs) = omega (arith, length-append (encodeRecord r) (encode rs), encoded-record-length r, encoded-length rs)
+
+-- no bytes, no record
+pub encode-empty : (rs : List Record) → length (encode rs) ≡ 0 → rs ≡ []
+encode-empty [] e = refl
+encode-empty (r ∷ rs) e = absurd (omega (arith, encoded-length (r ∷ rs), script-length-first r rs, record-length-pos r))
+  where
+    record-length-pos : (r : Record) → 0 < recordLength r
+    record-length-pos (frame bytes) = omega arith
+    record-length-pos (wait n) = omega arith
 
 pub output-bound : (rs : List Record) → outputLength rs ≤ scriptLength rs
 unfolding outputLength scriptLength

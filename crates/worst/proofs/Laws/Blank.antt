@@ -23,7 +23,7 @@ use Rattle.script.specs.Record.{encode}
 use Rattle.script.specs.declared.measure.Measure.{Measure}
 use Rattle.script.specs.Measure.{measureOf}
 use Rattle.region.specs.Region.{wantedAt, changes, rises}
-use Rattle.region.proofs.Laws.Region.{change-in-region, changes-inside, rises-inside, any-none}
+use Rattle.region.proofs.Laws.Region.{change-in-region, changes-inside, rises-inside, wants-none}
 use Rattle.words.specs.Words.{wordChanges}
 use Rattle.words.proofs.Laws.Counts.{one-run, single-words}
 use Rattle.words.proofs.Laws.Words.{words-step-counted}
@@ -109,7 +109,7 @@ module _ (s : State) (wp : Bool) (array : List ℕ) (blank : Blank s array) (wan
     ready = blank .ready;
     no-aai = blank .no-aai;
     awake = blank .awake;
-    falls = any-none (rises array 1 wanted) (length wanted) 1 falls;
+    falls = wants-none array 1 wanted falls;
   }
 
   -- a byte of the region changes unless FF is wanted

@@ -18,7 +18,7 @@ use Rattle.script.specs.Measure.{measureOf, AtMost}
 use Rattle.script.proofs.Laws.Measure.{measure-is}
 use Rattle.words.specs.Words.{stepTwo}
 use Rattle.pages.specs.Pages.{stepThree}
-use Rattle.plan.specs.declared.Planned.{Planned}
+use Rattle.state.specs.declared.Planned.{Planned}
 use Rattle.plan.specs.Plan.{stepOneNeeded, planRecords, withStatusSteps}
 use Rattle.plan.specs.Refusals.{planRefusal}
 use Rattle.plan.specs.Update.{PlanUpdated}

@@ -1,0 +1,87 @@
+-- The planner's promises: all that a layer above may cite of a plan. The names that it passes on are shut above: they can be cited and not opened, so a
+-- layer that lists this crate and none of the planner's leans on what is said here, and on the laws in proofs/Laws/Promises.antt. No word of a script's
+-- records is in it.
+-- Not promised: "After a cut the 05PA may stand unprotected; demand 3 speaks of the array." (01)
+use mathlib.Core.Path.{_≡_}
+use mathlib.Core.Bool.{Bool, true, false}
+use mathlib.Core.List.{List}
+use mathlib.Core.Logic.{_⊎_}
+use Prim.Native.Nat.{ℕ, _+_, _≤_, _<_}
+use lib.ListN.{length}
+use Rattle.common.specs.Bits.{Bytes}
+use Rattle.common.specs.Limits.{longestWanted}
+use Rattle.common.specs.Refusals.{wantedRises, bufferTooShort, firstOf, Exactly}
+use Rattle.state.specs.declared.State.{State}
+use Rattle.state.specs.declared.Planned.{Planned}
+use Rattle.state.specs.State.{dataOf, withWel, withArmed}
+use Rattle.state.specs.Answer.{emptyPlan, refusedPlan}
+use Rattle.state.specs.Soundness.{isSound}
+-- ---- the names
+
+-- a chip, its state with its array
+pub use Rattle.frame.specs.Device.{Device}
+-- every byte of the region is as wanted; a 1 is wanted where the array has 0
+pub use Rattle.region.specs.Region.{NothingChanges, WantedRises}
+-- the call: its answer and the buffer before and after; its refusals in the order checked, by tests of which busy, AAI and power-down are one, and a
+-- status register that can't be written another; the bytes of its script
+pub use Rattle.plan.specs.Update.{Plans}
+pub use Rattle.plan.specs.Refusals.{isActive, isLocked, bytesNeeded, planRefusals, planRefusal}
+-- bytes that are room enough for every plan of a chip
+pub use Rattle.worst.specs.Worst.{roomEnough}
+-- the array with the region as wanted and the rest as it was; each bit of the region as before or as wanted, and nothing outside moved
+pub use Rattle.powercut.specs.PowerCut.{updated, Partway}
+-- the chip behind a plan that was run to its end, that was cut somewhere and powered up, or either; a chip that the next plan can be made for
+pub use Rattle.powercut.specs.PowerCut.{Finished, PowerLost, BehindPlan, Ready}
+
+-- ---- what the call answers
+
+-- nothing is wrong with what the call is given: none of 1, 2, 6 and 7
+pub record InOrder (s : State) (array : List ℕ) (start : ℕ) (wanted : List ℕ) : Type 0 where
+  pub sound : isSound s ≡ true
+  pub sized : length array ≡ dataOf s .size
+  pub short : length wanted ≤ longestWanted
+  pub fits : start + length wanted ≤ dataOf s .size
+  pub at-rest : isActive s ≡ false
+
+-- a plan that is accepted
+pub record Accepts (s : State) (wp : Bool) (array : List ℕ) (start : ℕ) (wanted : List ℕ) (room : ℕ) : Type 0 where
+  pub in-order : InOrder s array start wanted
+  pub falls : WantedRises array start wanted → ⊥
+  pub unlocked : isLocked s wp array start wanted ≡ false
+  pub roomy : bytesNeeded s array start wanted ≤ room
+
+pub record Answered (s : State) (wp : Bool) (array : List ℕ) (start : ℕ) (wanted buffer after : List ℕ) (r : Planned) : Type 0 where
+  -- the first refusal that holds, 0 where none does
+  pub number-is : r .number ≡ planRefusal s wp array start wanted (length buffer)
+  pub refusal-is : planRefusal s wp array start wanted (length buffer) ≡ firstOf (planRefusals s wp array start wanted (length buffer))
+  pub accepted-exactly : Bytes wanted → Exactly (r .number ≡ 0) (Accepts s wp array start wanted (length buffer))
+  pub eight-exactly : Bytes wanted → Exactly (r .number ≡ wantedRises) (InOrder s array start wanted × WantedRises array start wanted)
+  -- a refusal says nothing but its number, and leaves every byte of the buffer
+  pub refused-untouched : 0 < r .number → (r ≡ refusedPlan (r .number) s) × (after ≡ buffer)
+  -- planning runs nothing
+  pub state-given : r .state ≡ s
+  -- an accepted plan is the empty script exactly when nothing changes; then its counts are 0 and the buffer is as it was
+  pub empty-exactly : r .number ≡ 0 → Exactly (r .length ≡ 0) (NothingChanges array start wanted)
+  pub nothing-to-do : r .number ≡ 0 → NothingChanges array start wanted
+      → (r ≡ emptyPlan s) × (after ≡ buffer)
+  pub room-enough : roomEnough s ≤ length buffer → r .number ≡ bufferTooShort → ⊥
+
+-- ---- the chip behind it
+
+-- of an accepted plan that is made for a chip
+pub record Promises (wp : Bool) (chip : Device) (start : ℕ) (wanted : List ℕ) (room : ℕ) : Type 0 where
+  -- run to its end: the region is as wanted, the rest as it was, and the chip at rest with its protection as given
+  pub finished : (after : Device) → Finished wp chip start wanted after → after .array ≡ updated (chip .array) start wanted
+  pub rested : (after : Device) → Finished wp chip start wanted after
+      → (after .state ≡ chip .state) ⊎ (after .state ≡ withArmed (withWel (chip .state) false) false)
+  -- run to its end or cut anywhere: each bit of the region is as before or as wanted, and nothing outside has moved
+  pub partway : (after : Device) → BehindPlan wp chip start wanted after → Partway (chip .array) start wanted (after .array)
+  -- and the chip is sound and at rest, of the same number, with an array of its size and of bytes
+  pub ready : (after : Device) → BehindPlan wp chip start wanted after → Ready (chip .state .chip) after
+  -- planned again behind a cut, with 22 bytes more room or with more than that, or with the chip's worst case: accepted, and that plan completes the update
+  pub again : (cut : Device) → PowerLost wp chip start wanted cut → (more : ℕ) → room + 22 ≤ more
+      → planRefusal (cut .state) wp (cut .array) start wanted more ≡ 0
+  pub again-in-worst : (cut : Device) → PowerLost wp chip start wanted cut → (more : ℕ) → roomEnough (cut .state) ≤ more
+      → planRefusal (cut .state) wp (cut .array) start wanted more ≡ 0
+  pub completed : (cut after : Device) → PowerLost wp chip start wanted cut → Finished wp cut start wanted after
+      → after .array ≡ updated (chip .array) start wanted
