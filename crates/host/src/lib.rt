@@ -7,6 +7,7 @@ use script::survey::Surveyed;
 use state::Answer;
 use state::Planned;
 use state::State;
+use state::Told;
 ghost use mathlib.Core.Path.{_≡_};
 ghost use Rattle.state.specs.Power.{newChip, powerUp};
 ghost use Rattle.state.specs.Time.{passTime};
@@ -15,6 +16,7 @@ ghost use Rattle.frame.specs.Call.{FrameRun, CutRun};
 ghost use Rattle.plan.specs.Update.{PlanUpdated};
 ghost use Rattle.script.specs.Survey.{surveyOf};
 ghost use Rattle.run.specs.Script.{ScriptRun};
+ghost use Rattle.book.specs.Answers.{isReadTold, countTold, Marks};
 ghost use Rattle.host.specs.Read.{ReadAnswered};
 
 // Make a new chip.
@@ -119,4 +121,35 @@ pub extern "C" fn zeradok_read(script: &[u8], offset: usize) -> Record
     ensures { λ r. ⌜ ReadAnswered (now (script .entry)) offset r ⌝ }
 {
     reader::record_of(script::reader::record_at(script, offset))
+}
+
+// Whether a scene of a flag book is read: 1 or 0.
+#[no_mangle]
+pub extern "C" fn zeradok_book_is_read(chip: State, array: &[u8], sector: usize, scene: u32) -> Told
+    ensures { λ r. ⌜ r ≡ isReadTold chip (now (array .entry)) sector scene ⌝ }
+{
+    book::is_read(chip, array, sector, scene)
+}
+
+// How many scenes of a flag book are read.
+#[no_mangle]
+pub extern "C" fn zeradok_book_count(chip: State, array: &[u8], sector: usize) -> Told
+    ensures { λ r. ⌜ r ≡ countTold chip (now (array .entry)) sector ⌝ }
+{
+    book::count_read(chip, array, sector)
+}
+
+// Plan the marking of a list of scenes in a flag book: the script goes to the front of the buffer.
+#[no_mangle]
+pub extern "C" fn zeradok_book_mark(
+    chip: State,
+    wp_high: bool,
+    array: &[u8],
+    sector: usize,
+    scenes: &[u32],
+    buffer: &mut [u8],
+) -> Planned
+    ensures { λ r. ⌜ Marks chip «wp_high» (now (array .entry)) sector (now (scenes .entry)) (now (buffer .entry)) (now (buffer .exit)) r ⌝ }
+{
+    book::mark(chip, wp_high, array, sector, scenes, buffer)
 }

@@ -8,3 +8,4 @@ pub mod Time
 pub mod Passed
 pub mod SoundRows
 pub mod Determined
+pub mod Told

@@ -77,3 +77,13 @@ pub fn refuse_plan(number: u32, state: State) -> Planned
         microseconds: 0,
     }
 }
+
+pub fn tell(number: u32, state: State, value: u32) -> Told
+    ensures { λ r. ⌜ r ≡ record { number = number; state = state; value = value } ⌝ }
+{
+    Told {
+        number,
+        state,
+        value,
+    }
+}

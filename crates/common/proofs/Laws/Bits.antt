@@ -10,16 +10,18 @@ use native.Mathlib.Numerals.{one-add}
 use native.Mathlib.Omega.{arith}
 use lib.Arith.{bin-ind, digits-mod, lt-one}
 use lib.Bits.{bitAnd, bitOr, and-le-l, and-step, or-step, and-shr, or-shr, and-self, and-comm, and-zero-r, and-mask}
+use lib.Count.{ones, ones-step, ones-ones}
 use lib.Dec.{eqb}
 use lib.ListN.{length, getD, drop, List·getD-eq-default}
 use lib.Pow.{shr-shr}
 use lib.Seq.{getD-drop}
-use Rattle.common.specs.Bits.{bitAt, Bytes}
-use borrow.Author.Tests.{eqb-true, eqb-false}
+use Rattle.common.specs.Bits.{bitAt, bit, Bytes}
+use Rattle.common.specs.Lists.{countBelow}
+use borrow.Author.Tests.{ne-eqb, eqb-true, eqb-false}
 use Rattle.common.proofs.Laws.Booleans.{and-l, and-r, and-off}
 use Rattle.common.proofs.Laws.Choice.{cases}
 use Rattle.common.proofs.Laws.Lists.{split}
-use Rattle.common.proofs.Laws.Places.{Passing, some-passes}
+use Rattle.common.proofs.Laws.Places.{count-none, count-cong, count-first, Passing, some-passes}
 
 pub bit-lt : (x b : ℕ) → bitAt x b < 2
 unfolding bitAt
@@ -46,11 +48,11 @@ pub bit-or : (x y b : ℕ) → bitAt (bitOr x y) b ≡ max (bitAt x b) (bitAt y 
 unfolding bitAt
 bit-or x y b = ap (λ (n : ℕ). n % 2) (or-shr x y b) ∙ or-odd (x / 2 ^ b) (y / 2 ^ b)
 
-bit-zero : (x : ℕ) → bitAt x 0 ≡ x % 2
+pub bit-zero : (x : ℕ) → bitAt x 0 ≡ x % 2
 unfolding bitAt
 bit-zero x = omega arith
 
-bit-suc : (x b : ℕ) → bitAt x (suc b) ≡ bitAt (x / 2) b
+pub bit-suc : (x b : ℕ) → bitAt x (suc b) ≡ bitAt (x / 2) b
 unfolding bitAt
 bit-suc x b = ap (λ (n : ℕ). x / 2 ^ n % 2) (sym (one-add b)) ∙ ap (λ (n : ℕ). n % 2) (sym (shr-shr x 1 b))
 
@@ -68,6 +70,43 @@ bit-complement (suc w) x (suc b) h l =
 
 pub bit-not : (x b : ℕ) → x < 256 → b < 8 → bitAt (255 - x) b ≡ 1 - bitAt x b
 bit-not x b h l = bit-complement 8 x b h l
+
+pow-half : (j : ℕ) → 2 ^ suc j / 2 ≡ 2 ^ j
+pow-half j = let p = pow-suc 2 j in omega arith
+
+-- a number with one bit set has that one, and no other
+pub bit-pow-same : (j : ℕ) → bitAt (2 ^ j) j ≡ 1
+bit-pow-same zero = bit-zero 1
+bit-pow-same (suc j) = bit-suc (2 ^ suc j) j ∙ ap (λ (n : ℕ). bitAt n j) (pow-half j) ∙ bit-pow-same j
+
+bit-none : (b : ℕ) → bitAt 0 b ≡ 0
+bit-none zero = bit-zero 0
+bit-none (suc b) = bit-suc 0 b ∙ bit-none b
+
+pub bit-pow-other : (j b : ℕ) → (j ≡ b → ⊥) → bitAt (2 ^ j) b ≡ 0
+bit-pow-other zero zero differ = absurd (differ refl)
+bit-pow-other zero (suc b) differ = bit-suc 1 b ∙ bit-none b
+bit-pow-other (suc j) zero differ = let p = pow-suc 2 j in bit-zero (2 ^ suc j) ∙ omega arith
+bit-pow-other (suc j) (suc b) differ =
+    bit-suc (2 ^ suc j) b ∙ ap (λ (n : ℕ). bitAt n b) (pow-half j) ∙ bit-pow-other j b (λ e. differ (ap suc e))
+
+-- the zeros of a number of w bits are the ones of its complement
+pub count-zeros : (w x : ℕ) → x < 2 ^ w → countBelow (λ b. eqb (bitAt x b) 0) w ≡ ones (2 ^ w - 1 - x)
+count-zeros zero x h = count-none (λ b. eqb (bitAt x b) 0) 0 (λ i l. absurd (not-suc-le-zero l)) ∙ sym (ones-zero (2 ^ 0 - 1 - x) (omega arith))
+  where
+    ones-zero : (n : ℕ) → n ≡ 0 → ones n ≡ 0
+    ones-zero n e = rw e (ones-ones 0)
+count-zeros (suc w) x h =
+    let p = pow-suc 2 w in
+    let y : ℕ = 2 ^ suc w - 1 - x in
+    let half : y / 2 ≡ 2 ^ w - 1 - x / 2 = omega arith in
+    let rest = count-cong (λ b. eqb (bitAt x (suc b)) 0) (λ b. eqb (bitAt (x / 2) b) 0) w (λ b l. ap (λ (n : ℕ). eqb n 0) (bit-suc x b)) ∙ count-zeros w (x / 2) (omega arith) in
+    let first : bit (eqb (bitAt x 0) 0) 1 ≡ y % 2 = first-digit (bitAt x 0) (omega (arith, bit-zero x)) in
+    count-first (λ b. eqb (bitAt x b) 0) w ∙ ap₂ (λ (a b : ℕ). a + b) first (rest ∙ ap ones (sym half)) ∙ sym (ones-step y)
+  where
+    first-digit : (n : ℕ) → n + (2 ^ suc w - 1 - x) % 2 ≡ 1 → bit (eqb n 0) 1 ≡ (2 ^ suc w - 1 - x) % 2
+    first-digit zero e = omega arith
+    first-digit (suc n) e = rw (ne-eqb (suc n) 0 (λ z. omega arith)) (omega arith)
 
 -- a number with eight bits set keeps a byte
 pub and-full : (x : ℕ) → x < 256 → bitAnd x 255 ≡ x

@@ -1,11 +1,11 @@
 -- The laws of `within` and `countBelow`: which places are meant, and how many of them lie below one. A search below a place.
 -- Assumes nothing.
-use mathlib.Core.Path.{_≡_, refl}
+use mathlib.Core.Path.{_≡_, refl, ap, _∙_}
 use mathlib.Core.Bool.{Bool, true, false, cond}
 use mathlib.Core.List.{List}
 use mathlib.Core.Logic.{⊎-elim, _⊎_, inl, inr}
 use Prim.Native.Nat.{ℕ, zero, suc, _+_, _-_, _≤_, _<_, min}
-use native.Mathlib.Nat.{eq-or-lt-of-le, le-of-suc-le-suc}
+use native.Mathlib.Nat.{add-zero, add-suc, eq-or-lt-of-le, le-of-suc-le-suc}
 use native.Mathlib.Numerals.{add-one}
 use native.Mathlib.Omega.{arith}
 use lib.Arith.{le-zero}
@@ -52,6 +52,24 @@ pub count-none : (test : ℕ → Bool) (k : ℕ) → ((i : ℕ) → i < k → te
 unfolding countBelow
 count-none test zero h = refl
 count-none test (suc k) h = rw (count-none test k (λ i b. h i (omega arith)), h k (omega arith)) refl
+
+-- two tests that agree below k
+pub count-cong : (s t : ℕ → Bool) (k : ℕ) → ((i : ℕ) → i < k → s i ≡ t i) → countBelow s k ≡ countBelow t k
+unfolding countBelow
+count-cong s t zero h = refl
+count-cong s t (suc k) h = rw (count-cong s t k (λ i b. h i (omega arith)), h k (omega arith)) refl
+
+-- the numbers below j, and the k from j on
+pub count-add : (test : ℕ → Bool) (j k : ℕ) → countBelow test (j + k) ≡ countBelow test j + countBelow (λ i. test (j + i)) k
+unfolding countBelow
+count-add test j zero = ap (countBelow test) (add-zero j) ∙ omega arith
+count-add test j (suc k) = ap (countBelow test) (add-suc j k) ∙ omega (arith, count-add test j k)
+
+-- the number 0, and those behind it
+pub count-first : (test : ℕ → Bool) (k : ℕ) → countBelow test (suc k) ≡ cond (test 0) 1 0 + countBelow (λ i. test (suc i)) k
+unfolding countBelow
+count-first test zero = omega arith
+count-first test (suc k) = omega (arith, count-first test k)
 
 -- what counts in one of two tests counts once
 pub count-sum : (test s t : ℕ → Bool) → ((k : ℕ) → cond (test k) 1 0 ≡ cond (s k) 1 0 + cond (t k) 1 0)

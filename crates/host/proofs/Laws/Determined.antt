@@ -21,6 +21,9 @@ use Rattle.run.proofs.Laws.Script.{run-script-determined}
 use Rattle.state.specs.declared.Planned.{Planned}
 use Rattle.plan.specs.Update.{PlanUpdated}
 use Rattle.plan.proofs.Laws.Update.{plan-update-determined}
+use Rattle.state.specs.declared.Told.{Told}
+use Rattle.book.specs.Answers.{isReadTold, countTold, Marks}
+use Rattle.book.proofs.Laws.Answers.{is-read-determined, count-determined, marks-determined}
 use Rattle.host.specs.Read.{ReadAnswered}
 use Rattle.host.specs.declared.reader.Record.{Record}
 
@@ -50,6 +53,19 @@ zeradok-survey-determined = survey-of-determined
 pub zeradok-read-determined : (script : List ℕ) (offset : ℕ) (a b : Record)
     → ReadAnswered script offset a → ReadAnswered script offset b → a ≡ b
 zeradok-read-determined script offset a b p q = p .answer-is ∙ sym (q .answer-is)
+
+-- the flag book's
+pub zeradok-book-is-read-determined : (chip : State) (array : List ℕ) (sector scene : ℕ) (a b : Told)
+    → a ≡ isReadTold chip array sector scene → b ≡ isReadTold chip array sector scene → a ≡ b
+zeradok-book-is-read-determined = is-read-determined
+
+pub zeradok-book-count-determined : (chip : State) (array : List ℕ) (sector : ℕ) (a b : Told)
+    → a ≡ countTold chip array sector → b ≡ countTold chip array sector → a ≡ b
+zeradok-book-count-determined = count-determined
+
+pub zeradok-book-mark-determined : (chip : State) (wp : Bool) (array : List ℕ) (sector : ℕ) (scenes buffer after after′ : List ℕ) (a b : Planned)
+    → Marks chip wp array sector scenes buffer after a → Marks chip wp array sector scenes buffer after′ b → (a ≡ b) × (after ≡ after′)
+zeradok-book-mark-determined = marks-determined
 
 -- the two calls on a lent state: the number returned, the chip left and the output
 module _ (wp : Bool) (f : List ℕ) (d : Device) (output : List ℕ) (number number′ : ℕ) (after after′ : Device) (out out′ : List ℕ) where

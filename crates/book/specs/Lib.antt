@@ -1,0 +1,3 @@
+pub mod Book
+pub mod Refusals
+pub mod Answers

@@ -1,0 +1,42 @@
+// The book's own refusals, in the order checked: 1, 2, 15.
+use common::refusals;
+use state::State;
+ghost use mathlib.Core.Path.{_≡_};
+ghost use Rattle.common.specs.Refusals.{firstOf};
+ghost use Rattle.book.specs.Refusals.{hasOver, bookRefusals};
+
+// The last scene of a book.
+const LAST_SCENE: u32 = 4095;
+
+const SECTOR: usize = 4096;
+
+// Whether a scene of the list is over 4,095.
+pub fn has_over(scenes: &[u32]) -> bool
+    ensures { λ r. ⌜ r ≡ hasOver (now (scenes .entry)) ⌝ }
+{
+    let mut i: usize = 0;
+    while i < scenes.len() {
+        if LAST_SCENE < scenes[i] {
+            return true;
+        }
+        i += 1;
+    }
+    false
+}
+
+// `size` is the array's length, `over` whether a scene is over 4,095; 0 where there is no refusal.
+pub fn book_refusal(s: State, size: usize, sector: usize, over: bool) -> u32
+    ensures { λ r. ⌜ r ≡ firstOf (bookRefusals s size sector over) ⌝ }
+{
+    let right = chip::chip_of(s.chip).size as usize;
+    if !state::soundness::is_sound(s) {
+        return refusals::STATE_NOT_SOUND;
+    }
+    if size != right {
+        return refusals::WRONG_ARRAY;
+    }
+    if over | !((sector % SECTOR == 0) & (sector < right)) {
+        return refusals::WRONG_BOOK;
+    }
+    0
+}
