@@ -3,3 +3,7 @@ pub mod Marked
 pub mod Read
 pub mod Refusals
 pub mod Answers
+pub mod Marking
+pub mod Numbers
+pub mod History
+pub mod Counted

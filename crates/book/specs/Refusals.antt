@@ -6,11 +6,11 @@ use mathlib.Core.List.{List, [], _∷_, _++_}
 use Prim.Native.Nat.{ℕ, _%_}
 use lib.Dec.{eqb, ltb}
 use lib.ListN.{length}
-use Rattle.common.specs.Refusals.{stateNotSound, wrongArray, notAtRest, statusLocked, bufferTooShort, wrongBook, firstOf}
+use Rattle.common.specs.Refusals.{stateNotSound, wrongArray, wrongBook, firstOf}
 use Rattle.state.specs.declared.State.{State}
 use Rattle.state.specs.State.{dataOf}
 use Rattle.state.specs.Soundness.{isSound}
-use Rattle.promises.specs.Promises.{isActive, isLocked, bytesNeeded}
+use Rattle.promises.specs.Promises.{laterRefusals}
 use Rattle.book.specs.Book.{wantedPart}
 
 -- "a scene over 4,095" is among them
@@ -18,34 +18,30 @@ unfoldable pub hasOver : List ℕ → Bool
 hasOver [] = false
 hasOver (scene ∷ scenes) = ltb 4095 scene || hasOver scenes
 
--- a sector start that is "a multiple of 4,096 inside the chip"
-unfoldable pub isSector : State → ℕ → Bool
-isSector s start = eqb (start % 4096) 0 && ltb start (dataOf s .size)
+-- a sector start that is "a multiple of 4,096 inside the chip", by its size
+unfoldable pub isSector : ℕ → ℕ → Bool
+isSector size start = eqb (start % 4096) 0 && ltb start size
 
 -- of every call, in the order checked, by the array's length and whether a scene is over
 abbrev pub bookRefusals : State → ℕ → ℕ → Bool → List (ℕ × Bool)
 bookRefusals s size sector over =
     (stateNotSound, not (isSound s))  -- "state not sound, or chip number unknown"
     ∷ (wrongArray, not (eqb size (dataOf s .size)))  -- "array length isn't the chip's size"
-    ∷ (wrongBook, over || not (isSector s sector))
+    ∷ (wrongBook, over || not (isSector (dataOf s .size) sector))
     ∷ []
 
 -- of a call that is asked for these scenes; 0 where there is none
 unfoldable pub bookRefusal : State → List ℕ → ℕ → List ℕ → ℕ
 bookRefusal s array sector scenes = firstOf (bookRefusals s (length array) sector (hasOver scenes))
 
--- of a marking: those, then the planner's own. Its 6 and 8 are not among them
+-- of a marking: those, then the planner's 7, 9 and 10. Its 6 and 8 are not among them
 abbrev pub markRefusals : State → Bool → List ℕ → ℕ → List ℕ → ℕ → List (ℕ × Bool)
 markRefusals s wp array sector scenes room =
-    bookRefusals s (length array) sector (hasOver scenes)
-    ++ ((notAtRest, isActive s)
-    ∷ (statusLocked, isLocked s wp array sector (wantedPart array sector scenes))
-    ∷ (bufferTooShort, ltb room (bytesNeeded s array sector (wantedPart array sector scenes)))
-    ∷ [])
+    bookRefusals s (length array) sector (hasOver scenes) ++ laterRefusals s wp array sector (wantedPart array sector scenes) room
 
 -- none of the book's own holds, in words
 pub record Opened (s : State) (array : List ℕ) (sector : ℕ) (scenes : List ℕ) : Type 0 where
   pub sound : isSound s ≡ true
   pub sized : length array ≡ dataOf s .size
   pub scenes-kept : hasOver scenes ≡ false
-  pub a-sector : isSector s sector ≡ true
+  pub a-sector : isSector (dataOf s .size) sector ≡ true

@@ -4,13 +4,14 @@
 -- Not promised: "After a cut the 05PA may stand unprotected; demand 3 speaks of the array." (01)
 use mathlib.Core.Path.{_≡_}
 use mathlib.Core.Bool.{Bool, true, false}
-use mathlib.Core.List.{List}
+use mathlib.Core.List.{List, [], _∷_}
 use mathlib.Core.Logic.{_⊎_}
 use Prim.Native.Nat.{ℕ, _+_, _≤_, _<_}
+use lib.Dec.{ltb}
 use lib.ListN.{length}
 use Rattle.common.specs.Bits.{Bytes}
 use Rattle.common.specs.Limits.{longestWanted}
-use Rattle.common.specs.Refusals.{wantedRises, bufferTooShort, firstOf, Exactly}
+use Rattle.common.specs.Refusals.{notAtRest, wantedRises, statusLocked, bufferTooShort, firstOf, Exactly}
 use Rattle.state.specs.declared.State.{State}
 use Rattle.state.specs.declared.Planned.{Planned}
 use Rattle.state.specs.State.{dataOf, withWel, withArmed}
@@ -35,27 +36,45 @@ pub use Rattle.powercut.specs.PowerCut.{Finished, PowerLost, BehindPlan, Ready}
 
 -- ---- what the call answers
 
--- nothing is wrong with what the call is given: none of 1, 2, 6 and 7
-pub record InOrder (s : State) (array : List ℕ) (start : ℕ) (wanted : List ℕ) : Type 0 where
+-- the region lies in the array of a sound chip: none of 1, 2 and 6
+pub record Fitting (s : State) (array : List ℕ) (start : ℕ) (wanted : List ℕ) : Type 0 where
   pub sound : isSound s ≡ true
   pub sized : length array ≡ dataOf s .size
   pub short : length wanted ≤ longestWanted
   pub fits : start + length wanted ≤ dataOf s .size
-  pub at-rest : isActive s ≡ false
 
 -- a plan that is accepted
 pub record Accepts (s : State) (wp : Bool) (array : List ℕ) (start : ℕ) (wanted : List ℕ) (room : ℕ) : Type 0 where
-  pub in-order : InOrder s array start wanted
+  pub fitting : Fitting s array start wanted
+  pub at-rest : isActive s ≡ false
   pub falls : WantedRises array start wanted → ⊥
   pub unlocked : isLocked s wp array start wanted ≡ false
   pub roomy : bytesNeeded s array start wanted ≤ room
+
+-- one that is refused for a wanted 1
+pub record Rises (s : State) (array : List ℕ) (start : ℕ) (wanted : List ℕ) : Type 0 where
+  pub fitting : Fitting s array start wanted
+  pub at-rest : isActive s ≡ false
+  pub rises : WantedRises array start wanted
+
+-- 7, 9 and 10: all that is left where the region fits and no bit is to rise
+abbrev pub laterRefusals : State → Bool → List ℕ → ℕ → List ℕ → ℕ → List (ℕ × Bool)
+laterRefusals s wp array start wanted room =
+    (notAtRest, isActive s)
+    ∷ (statusLocked, isLocked s wp array start wanted)
+    ∷ (bufferTooShort, ltb room (bytesNeeded s array start wanted))
+    ∷ []
 
 pub record Answered (s : State) (wp : Bool) (array : List ℕ) (start : ℕ) (wanted buffer after : List ℕ) (r : Planned) : Type 0 where
   -- the first refusal that holds, 0 where none does
   pub number-is : r .number ≡ planRefusal s wp array start wanted (length buffer)
   pub refusal-is : planRefusal s wp array start wanted (length buffer) ≡ firstOf (planRefusals s wp array start wanted (length buffer))
   pub accepted-exactly : Bytes wanted → Exactly (r .number ≡ 0) (Accepts s wp array start wanted (length buffer))
-  pub eight-exactly : Bytes wanted → Exactly (r .number ≡ wantedRises) (InOrder s array start wanted × WantedRises array start wanted)
+  pub eight-exactly : Bytes wanted → Exactly (r .number ≡ wantedRises) (Rises s array start wanted)
+  pub later : Bytes wanted → Fitting s array start wanted → (WantedRises array start wanted → ⊥)
+      → r .number ≡ firstOf (laterRefusals s wp array start wanted (length buffer))
+  -- 9 comes with BPL 1 and WP low, and never else
+  pub nine-locked : r .number ≡ statusLocked → (s .bpl ≡ true) × (wp ≡ false)
   -- a refusal says nothing but its number, and leaves every byte of the buffer
   pub refused-untouched : 0 < r .number → (r ≡ refusedPlan (r .number) s) × (after ≡ buffer)
   -- planning runs nothing

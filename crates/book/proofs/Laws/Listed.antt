@@ -44,6 +44,10 @@ module _ (scenes : List ℕ) (i : ℕ) where
   unfolding hasOver
   over-end h = rw (drop-of-length-le scenes h) refl
 
+pub over-rest : (scene : ℕ) (scenes : List ℕ) → hasOver (scene ∷ scenes) ≡ false → hasOver scenes ≡ false
+unfolding hasOver
+over-rest scene scenes e = or-none-r (ltb 4095 scene) (hasOver scenes) e
+
 -- none is: each is a scene of a book
 pub none-over : (scenes : List ℕ) → hasOver scenes ≡ false → (i : ℕ) → i < length scenes → getD scenes i 0 < 4096
 unfolding hasOver

@@ -31,6 +31,12 @@ read-at array sector k b l =
     let digit : (k * 8 + b) % 8 ≡ b = omega arith in
     rw (read-is array sector (k * 8 + b), byte, digit) refl
 
+-- in two arrays that agree on its byte
+pub read-by-byte : (now before : List ℕ) (sector scene : ℕ) → getD now (sector + scene / 8) 0 ≡ getD before (sector + scene / 8) 0
+    → isRead now sector scene ≡ isRead before sector scene
+read-by-byte now before sector scene e =
+    read-is now sector scene ∙ ap (λ (x : ℕ). eqb (bitAt x (scene % 8)) 0) e ∙ sym (read-is before sector scene)
+
 -- as a shift tells it
 pub read-shifted : (array : List ℕ) (sector scene : ℕ) → eqb (getD array (sector + scene / 8) 0 / 2 ^ (scene % 8) % 2) 0 ≡ isRead array sector scene
 read-shifted array sector scene = rw (read-is array sector scene, bit-is (getD array (sector + scene / 8) 0) (scene % 8)) refl

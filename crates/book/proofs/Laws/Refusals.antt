@@ -33,20 +33,20 @@ module _ (s : State) (array : List ℕ) (sector : ℕ) where
 
 -- ---- a sector
 
-module _ (s : State) (start : ℕ) where
-  pub sector-exactly : Exactly (isSector s start ≡ true) ((start % 4096 ≡ 0) × (start < dataOf s .size))
-  unfolding isSector
-  sector-exactly = record {
-    when = λ e. (
-      eqb-true (start % 4096) 0 (and-l (eqb (start % 4096) 0) (ltb start (dataOf s .size)) e),
-      ltb-true start (dataOf s .size) (and-r (eqb (start % 4096) 0) (ltb start (dataOf s .size)) e),
-    );
-    only-when = λ h. and-i (eq-eqb (start % 4096) 0 (h .0)) (lt-ltb start (dataOf s .size) (h .1));
-  }
+pub sector-exactly : (size start : ℕ) → Exactly (isSector size start ≡ true) ((start % 4096 ≡ 0) × (start < size))
+unfolding isSector
+sector-exactly size start = record {
+  when = λ e. (
+    eqb-true (start % 4096) 0 (and-l (eqb (start % 4096) 0) (ltb start size) e),
+    ltb-true start size (and-r (eqb (start % 4096) 0) (ltb start size) e),
+  );
+  only-when = λ h. and-i (eq-eqb (start % 4096) 0 (h .0)) (lt-ltb start size (h .1));
+}
 
-  -- it lies in the chip whole
-  pub sector-fits : isSector s start ≡ true → start + 4096 ≤ dataOf s .size
-  sector-fits e = let h = sector-exactly .when e in omega (arith, h .0, h .1, regular (s .chip) .whole-blocks)
+-- of a chip: it lies in it whole
+pub sector-fits : (s : State) (start : ℕ) → isSector (dataOf s .size) start ≡ true → start + 4096 ≤ dataOf s .size
+sector-fits s start e =
+    let h = sector-exactly (dataOf s .size) start .when e in omega (arith, h .0, h .1, regular (s .chip) .whole-blocks)
 
 -- ---- none of them holds
 
@@ -58,8 +58,8 @@ module _ (s : State) (array : List ℕ) (sector : ℕ) (scenes : List ℕ) where
         record {
           sound = not-false (isSound s) (c .0);
           sized = eqb-true (length array) (dataOf s .size) (not-false (eqb (length array) (dataOf s .size)) (c .1 .0));
-          scenes-kept = or-none-l (hasOver scenes) (not (isSector s sector)) (c .1 .1 .0);
-          a-sector = not-false (isSector s sector) (or-none-r (hasOver scenes) (not (isSector s sector)) (c .1 .1 .0));
+          scenes-kept = or-none-l (hasOver scenes) (not (isSector (dataOf s .size) sector)) (c .1 .1 .0);
+          a-sector = not-false (isSector (dataOf s .size) sector) (or-none-r (hasOver scenes) (not (isSector (dataOf s .size) sector)) (c .1 .1 .0));
         };
     only-when = λ o.
         refusal-of s array sector scenes

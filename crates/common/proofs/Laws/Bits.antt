@@ -4,8 +4,8 @@ use mathlib.Core.Path.{_≡_, refl, sym, ap, ap₂, _∙_}
 use mathlib.Core.Bool.{Bool, false, _&&_}
 use mathlib.Core.List.{List}
 use mathlib.Core.Logic.{⊎-elim}
-use Prim.Native.Nat.{ℕ, zero, suc, _+_, _-_, _*_, _/_, _%_, _^_, _<_, min, max, suc-le-suc}
-use native.Mathlib.Nat.{le-of-suc-le-suc, mod-eq-of-lt, not-suc-le-zero, pow-suc, zero-lt-suc}
+use Prim.Native.Nat.{ℕ, zero, suc, _+_, _-_, _*_, _/_, _%_, _^_, _≤_, _<_, min, max, suc-le-suc}
+use native.Mathlib.Nat.{zero-add, lt-of-lt-of-le, le-of-suc-le-suc, mod-eq-of-lt, not-suc-le-zero, pow-suc, zero-lt-suc}
 use native.Mathlib.Numerals.{one-add}
 use native.Mathlib.Omega.{arith}
 use lib.Arith.{bin-ind, digits-mod, lt-one}
@@ -13,7 +13,7 @@ use lib.Bits.{bitAnd, bitOr, and-le-l, and-step, or-step, and-shr, or-shr, and-s
 use lib.Count.{ones, ones-step, ones-ones}
 use lib.Dec.{eqb}
 use lib.ListN.{length, getD, drop, List·getD-eq-default}
-use lib.Pow.{shr-shr}
+use lib.Pow.{pow-mono, shr-lt, shr-shr}
 use lib.Seq.{getD-drop}
 use Rattle.common.specs.Bits.{bitAt, bit, Bytes}
 use Rattle.common.specs.Lists.{countBelow}
@@ -107,6 +107,11 @@ count-zeros (suc w) x h =
     first-digit : (n : ℕ) → n + (2 ^ suc w - 1 - x) % 2 ≡ 1 → bit (eqb n 0) 1 ≡ (2 ^ suc w - 1 - x) % 2
     first-digit zero e = omega arith
     first-digit (suc n) e = rw (ne-eqb (suc n) 0 (λ z. omega arith)) (omega arith)
+
+-- above the w bits of a number there is none
+pub bit-above : (w x b : ℕ) → x < 2 ^ w → w ≤ b → bitAt x b ≡ 0
+unfolding bitAt
+bit-above w x b h l = let none = lt-one (shr-lt {n = x} 0 b (rw (zero-add b) (lt-of-lt-of-le h (pow-mono l)))) in omega arith
 
 -- a number with eight bits set keeps a byte
 pub and-full : (x : ℕ) → x < 256 → bitAnd x 255 ≡ x

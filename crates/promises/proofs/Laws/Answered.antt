@@ -1,17 +1,17 @@
 -- What the planner's call answers is as promised, and nothing but one answer is.
 -- Assumes nothing.
 use mathlib.Core.Path.{_≡_, refl, sym, ap, _∙_}
-use mathlib.Core.Bool.{Bool, true, false, true≢false, not, _||_}
+use mathlib.Core.Bool.{Bool, true, false, true≢false, not, _&&_, _||_}
 use mathlib.Core.List.{List, []}
 use Prim.Native.Nat.{ℕ, _+_, _<_}
 use native.Mathlib.Omega.{arith}
 use lib.Dec.{ltb, eqb}
 use lib.ListN.{length}
-use borrow.Author.Tests.{eq-eqb, eqb-true, le-ltb, ltb-false, not-false}
+use borrow.Author.Tests.{eq-eqb, eqb-true, le-ltb, ltb-false, not-true, not-false}
 use Rattle.common.specs.Bits.{Bytes}
 use Rattle.common.specs.Limits.{longestWanted}
-use Rattle.common.specs.Refusals.{wantedRises, firstOf, Exactly}
-use Rattle.common.proofs.Laws.Booleans.{or-none-l, or-none-r, or-none-i}
+use Rattle.common.specs.Refusals.{wantedRises, statusLocked, firstOf, Exactly}
+use Rattle.common.proofs.Laws.Booleans.{and-l, and-r, or-none-l, or-none-r, or-none-i}
 use Rattle.common.proofs.Laws.Choice.{cases}
 use Rattle.common.proofs.Laws.Refusals.{clear, first-of-clear, given-exactly}
 use Rattle.state.specs.declared.State.{State}
@@ -23,14 +23,14 @@ use Rattle.script.proofs.Laws.Records.{encode-none, encode-empty}
 use Rattle.script.proofs.Laws.Measure.{counts-none}
 use Rattle.region.specs.Region.{wantsRise, NothingChanges, WantedRises}
 use Rattle.region.proofs.Laws.Words.{rises-exactly}
-use Rattle.plan.specs.Plan.{planRecords}
-use Rattle.plan.specs.Refusals.{isActive, bytesNeeded, planRefusals, planRefusal}
+use Rattle.plan.specs.Plan.{stepOneNeeded, planRecords}
+use Rattle.plan.specs.Refusals.{isLocked, bytesNeeded, planRefusals, planRefusal}
 use Rattle.plan.specs.Update.{givenRecords, PlanUpdated, Plans}
 use Rattle.plan.proofs.Laws.Plan.{plan-empty-exactly}
 use Rattle.plan.proofs.Laws.Update.{plan-given, plan-update-determined, refused-untouched}
 use Rattle.worst.specs.Worst.{roomEnough}
 use Rattle.worst.proofs.Laws.Worst.{worst-room}
-use Rattle.promises.specs.Promises.{InOrder, Accepts, Answered}
+use Rattle.promises.specs.Promises.{Fitting, Accepts, Rises, laterRefusals, Answered}
 
 module _ (s : State) (wp : Bool) (array : List ℕ) (start : ℕ) (wanted : List ℕ) where
   module _ (room : ℕ) where
@@ -41,17 +41,16 @@ module _ (s : State) (wp : Bool) (array : List ℕ) (start : ℕ) (wanted : List
     unfolding planRefusal
     refusal-in-order = refl
 
-    in-order-of : not (isSound s) ≡ false → not (eqb (length array) (dataOf s .size)) ≡ false
-        → (ltb longestWanted (length wanted) || ltb (dataOf s .size) (start + length wanted)) ≡ false → isActive s ≡ false → InOrder s array start wanted
-    in-order-of one two six seven = record {
+    fitting-of : not (isSound s) ≡ false → not (eqb (length array) (dataOf s .size)) ≡ false
+        → (ltb longestWanted (length wanted) || ltb (dataOf s .size) (start + length wanted)) ≡ false → Fitting s array start wanted
+    fitting-of one two six = record {
       sound = not-false (isSound s) one;
       sized = eqb-true (length array) (dataOf s .size) (not-false (eqb (length array) (dataOf s .size)) two);
       short = ltb-false longestWanted (length wanted) (or-none-l (ltb longestWanted (length wanted)) (ltb (dataOf s .size) (start + length wanted)) six);
       fits = ltb-false (dataOf s .size) (start + length wanted) (or-none-r (ltb longestWanted (length wanted)) (ltb (dataOf s .size) (start + length wanted)) six);
-      at-rest = seven;
     }
 
-    module _ (o : InOrder s array start wanted) where
+    module _ (o : Fitting s array start wanted) where
       not-1 : not (isSound s) ≡ false
       not-1 = ap not (o .sound)
 
@@ -73,27 +72,42 @@ module _ (s : State) (wp : Bool) (array : List ℕ) (start : ℕ) (wanted : List
         when = λ e.
             let c = clear (planRefusals s wp array start wanted room) refl (sym refusal-in-order ∙ e) in
             record {
-              in-order = in-order-of (c .0) (c .1 .0) (c .1 .1 .0) (c .1 .1 .1 .0);
+              fitting = fitting-of (c .0) (c .1 .0) (c .1 .1 .0);
+              at-rest = c .1 .1 .1 .0;
               falls = falling (c .1 .1 .1 .1 .0);
               unlocked = c .1 .1 .1 .1 .1 .0;
               roomy = ltb-false room (bytesNeeded s array start wanted) (c .1 .1 .1 .1 .1 .1 .0);
             };
         only-when = λ a.
-            let o = a .in-order in
+            let o = a .fitting in
             refusal-in-order
             ∙ first-of-clear (planRefusals s wp array start wanted room)
-            (not-1 o, (not-2 o, (not-6 o, (o .at-rest, (not-8 (a .falls), (a .unlocked, (le-ltb room (bytesNeeded s array start wanted) (a .roomy), tt)))))));
+            (not-1 o, (not-2 o, (not-6 o, (a .at-rest, (not-8 (a .falls), (a .unlocked, (le-ltb room (bytesNeeded s array start wanted) (a .roomy), tt)))))));
       }
 
-      refusal-8-exactly : Exactly (number ≡ wantedRises) (InOrder s array start wanted × WantedRises array start wanted)
+      refusal-8-exactly : Exactly (number ≡ wantedRises) (Rises s array start wanted)
       refusal-8-exactly =
           let given = given-exactly (planRefusals s wp array start wanted room) wantedRises (omega arith) in
           let bits = rises-exactly array start wanted bytes in
           record {
-            when = λ e. let g = given .when (sym refusal-in-order ∙ e) in (in-order-of (g .0) (g .1 .0) (g .1 .1 .0) (g .1 .1 .1 .0), bits .when (g .1 .1 .1 .1));
-            only-when = λ h. let o = h .0 in
-                refusal-in-order ∙ given .only-when (not-1 o, (not-2 o, (not-6 o, (o .at-rest, bits .only-when (h .1)))));
+            when = λ e.
+                let g = given .when (sym refusal-in-order ∙ e) in
+                record { fitting = fitting-of (g .0) (g .1 .0) (g .1 .1 .0); at-rest = g .1 .1 .1 .0; rises = bits .when (g .1 .1 .1 .1) };
+            only-when = λ h.
+                let o = h .fitting in
+                refusal-in-order ∙ given .only-when (not-1 o, (not-2 o, (not-6 o, (h .at-rest, bits .only-when (h .rises)))));
           }
+
+      refusal-later : Fitting s array start wanted → (WantedRises array start wanted → ⊥) → number ≡ firstOf (laterRefusals s wp array start wanted room)
+      refusal-later o none = refusal-in-order ∙ rw (not-1 o, not-2 o, not-6 o, not-8 none) refl
+
+    refusal-9-locked : number ≡ statusLocked → (s .bpl ≡ true) × (wp ≡ false)
+    unfolding isLocked
+    refusal-9-locked e =
+        let g = given-exactly (planRefusals s wp array start wanted room) statusLocked (omega arith) .when (sym refusal-in-order ∙ e) in
+        let locked = g .1 .1 .1 .1 .1 in
+        let two = and-l (stepOneNeeded s array start wanted && s .bpl) (not wp) locked in
+        (and-r (stepOneNeeded s array start wanted) (s .bpl) two, not-true wp (and-r (stepOneNeeded s array start wanted && s .bpl) (not wp) locked))
 
   -- two answers to one call are equal
   pub plans-determined : (buffer after₁ after₂ : List ℕ) (r₁ r₂ : Planned) → Plans s wp array start wanted buffer after₁ r₁
@@ -138,6 +152,8 @@ module _ (s : State) (wp : Bool) (array : List ℕ) (start : ℕ) (wanted : List
         record { when = λ z. e .when (sym (plans .number) ∙ z); only-when = λ a. plans .number ∙ e .only-when a };
     eight-exactly = λ bytes. let e = refusal-8-exactly (length buffer) bytes in
         record { when = λ z. e .when (sym (plans .number) ∙ z); only-when = λ a. plans .number ∙ e .only-when a };
+    later = λ bytes fitting none. plans .number ∙ refusal-later (length buffer) bytes fitting none;
+    nine-locked = λ z. refusal-9-locked (length buffer) (sym (plans .number) ∙ z);
     refused-untouched = refused-untouched s wp array start wanted buffer after r plans;
     state-given = plans .state;
     empty-exactly = length-0-exactly buffer after r plans;

@@ -1,0 +1,203 @@
+-- What a marking leaves: from the planner's promises alone, bit by bit.
+-- Assumes nothing.
+use mathlib.Core.Path.{_≡_, refl, sym, ap, _∙_}
+use mathlib.Core.Bool.{Bool, true, false, true≢false, cond, _||_}
+use mathlib.Core.List.{List}
+use mathlib.Core.Logic.{_⊎_, inl, inr, ⊎-elim}
+use Prim.Native.Nat.{ℕ, _+_, _-_, _*_, _/_, _%_, _≤_, _<_}
+use native.Mathlib.Omega.{arith}
+use lib.Dec.{eqb}
+use lib.ListN.{length, getD}
+use lib.Seq.{ext-getD}
+use borrow.Author.Tests.{eq-eqb, eqb-true}
+use Rattle.common.specs.Bits.{Bytes, bitAt}
+use Rattle.common.specs.Lists.{within}
+use Rattle.common.proofs.Laws.Bits.{bits-ext}
+use Rattle.common.proofs.Laws.Choice.{cases}
+use Rattle.common.proofs.Laws.Lists.{split}
+use Rattle.common.proofs.Laws.Places.{within-yes}
+use Rattle.state.specs.declared.Planned.{Planned}
+use Rattle.state.specs.State.{dataOf}
+use Rattle.promises.specs.Promises.{Device, planRefusal, updated, Partway, Ready, Answered, Promises}
+use Rattle.promises.proofs.Laws.Answered.{plan-answered}
+use Rattle.promises.proofs.Laws.Promises.{promises-kept, updated-at, updated-partway}
+use Rattle.book.specs.Book.{isRead, usedPart, marked, wantedPart, isListed}
+use Rattle.book.specs.Refusals.{bookRefusal, Opened}
+use Rattle.book.specs.Answers.{Marks}
+use Rattle.book.specs.Marking.{MarkFinished, MarkLost, BehindMark, BesideKept, AllMarked, OnlyListed, MarkedAgain}
+use Rattle.book.proofs.Laws.Marked.{zero-either, length-marked, marked-bytes, marked-bit}
+use Rattle.book.proofs.Laws.Read.{read-is, used-length, used-at, used-bytes}
+use Rattle.book.proofs.Laws.Refusals.{opened-exactly, book-inside}
+
+-- ---- what is wanted
+
+module _ (array : List ℕ) (sector : ℕ) (scenes : List ℕ) (fits : sector + 512 ≤ length array) where
+  abbrev wanted : List ℕ
+  wanted = wantedPart array sector scenes
+
+  pub wanted-length : length wanted ≡ 512
+  wanted-length = length-marked scenes (usedPart array sector) ∙ used-length array sector fits
+
+  pub wanted-bytes : Bytes array → Bytes wanted
+  wanted-bytes bytes = marked-bytes scenes (usedPart array sector) (used-bytes array sector fits bytes)
+
+  -- a bit of it, by byte and bit and by the scene
+  pub wanted-bit : (k b : ℕ) → k < 512 → b < 8 → bitAt (getD wanted k 0) b ≡ cond (isListed (k * 8 + b) scenes) 0 (bitAt (getD array (sector + k) 0) b)
+  wanted-bit k b h l =
+      marked-bit scenes (usedPart array sector) k b (rw (used-length array sector fits) h) l
+      ∙ ap (λ (x : ℕ). cond (isListed (k * 8 + b) scenes) 0 (bitAt x b)) (used-at array sector fits k h)
+
+  pub wanted-flag : (scene : ℕ) → scene < 4096
+      → bitAt (getD wanted (scene / 8) 0) (scene % 8) ≡ cond (isListed scene scenes) 0 (bitAt (getD array (sector + scene / 8) 0) (scene % 8))
+  wanted-flag scene h =
+      let is : scene / 8 * 8 + scene % 8 ≡ scene = omega arith in
+      rw is at (wanted-bit (scene / 8) (scene % 8) (omega arith) (omega arith))
+
+  -- a byte of the book is one of the region
+  pub in-book : (k : ℕ) → k < 512 → within sector (length wanted) (sector + k) ≡ true
+  in-book k h = within-yes sector (length wanted) (sector + k) (omega arith) (omega (arith, wanted-length))
+
+-- a bit that is 0, or one of a list's
+read-or-listed : (l : Bool) (x : ℕ) → eqb (cond l 0 x) 0 ≡ (eqb x 0 || l)
+read-or-listed true x = or-true (eqb x 0)
+  where
+    or-true : (t : Bool) → true ≡ (t || true)
+    or-true true = refl
+    or-true false = refl
+read-or-listed false x = or-false (eqb x 0)
+  where
+    or-false : (t : Bool) → t ≡ (t || false)
+    or-false true = refl
+    or-false false = refl
+
+-- ---- an accepted marking
+
+module _ (wp : Bool) (chip : Device) (sector : ℕ) (scenes buffer after : List ℕ) (r : Planned) (bytes : Bytes (chip .array))
+    (marks : Marks (chip .state) wp (chip .array) sector scenes buffer after r) (good : r .number ≡ 0) where
+  abbrev before : List ℕ
+  before = chip .array
+
+  abbrev want : List ℕ
+  want = wantedPart before sector scenes
+
+  no-refusal : bookRefusal (chip .state) before sector scenes ≡ 0
+  no-refusal =
+      ⊎-elim (λ h. let refused = marks .refused (bookRefusal (chip .state) before sector scenes) h refl .0 in
+      absurd (omega (arith, good, ap (λ (p : Planned). p .number) refused)))
+      (λ h. omega arith) (split 0 (bookRefusal (chip .state) before sector scenes))
+
+  pub opened : Opened (chip .state) before sector scenes
+  opened = opened-exactly (chip .state) before sector scenes .when no-refusal
+
+  pub inside : sector + 512 ≤ length before
+  inside = book-inside (chip .state) before sector scenes opened
+
+  pub answered : Answered (chip .state) wp before sector want buffer after r
+  answered = plan-answered (chip .state) wp before sector want buffer after r (marks .planned no-refusal)
+
+  pub kept : Promises wp chip sector want (length buffer)
+  kept = promises-kept wp chip sector want (length buffer) bytes (sym (answered .number-is) ∙ good)
+
+  -- ---- behind its script
+
+  beside-of : (array : List ℕ) → Partway before sector want array → BesideKept sector before array
+  beside-of array part = record { same-length = part .same-length; same-beside = rw (wanted-length before sector scenes inside) at (part .outside) }
+
+  -- the array once the used bytes are as wanted
+  all-marked : (array : List ℕ) → array ≡ updated before sector want → AllMarked sector scenes before array
+  all-marked array e = record {
+    flags = λ scene h.
+        let here : sector + scene / 8 - sector ≡ scene / 8 = omega arith in
+        let place = in-book before sector scenes inside (scene / 8) (omega arith) in
+        let byte : getD array (sector + scene / 8) 0 ≡ getD want (scene / 8) 0 =
+        ap (λ (l : List ℕ). getD l (sector + scene / 8) 0) e
+        ∙ updated-at before sector want (sector + scene / 8) (omega (arith, inside)) ∙ rw (place, here) refl in
+        read-is array sector scene
+        ∙ ap (λ (x : ℕ). eqb (bitAt x (scene % 8)) 0) byte
+        ∙ ap (λ (x : ℕ). eqb x 0) (wanted-flag before sector scenes inside scene h)
+        ∙ read-or-listed (isListed scene scenes) (bitAt (getD before (sector + scene / 8) 0) (scene % 8))
+        ∙ ap (λ (t : Bool). t || isListed scene scenes) (sym (read-is before sector scene));
+    beside = beside-of array (rw e (updated-partway before sector want (omega (arith, inside, wanted-length before sector scenes inside))));
+  }
+
+  -- run to its end
+  pub mark-finished : (done : Device) → MarkFinished wp chip sector scenes done → AllMarked sector scenes before (done .array)
+  mark-finished done finished = all-marked (done .array) (kept .finished done finished)
+
+  -- run to its end or cut anywhere
+  pub mark-behind : (done : Device) → BehindMark wp chip sector scenes done → OnlyListed sector scenes before (done .array)
+  mark-behind done behind = record {
+    unlisted = λ scene h e. flag-by scene (unlisted-bit scene h e);
+    stays-read = λ scene h e. read-is (done .array) sector scene ∙ eq-eqb _ 0 (read-bit scene h (eqb-true _ 0 (sym (read-is before sector scene) ∙ e)));
+    beside = beside-of (done .array) (kept .partway done behind);
+  }
+    where
+      bit-of : List ℕ → ℕ → ℕ
+      bit-of l scene = bitAt (getD l (sector + scene / 8) 0) (scene % 8)
+
+      -- as before or as wanted
+      either : (scene : ℕ) → scene < 4096 → (bit-of (done .array) scene ≡ bit-of before scene) ⊎ (bit-of (done .array) scene ≡ cond (isListed scene scenes) 0 (bit-of before scene))
+      either scene h =
+          let here : sector + scene / 8 - sector ≡ scene / 8 = omega arith in
+          ⊎-elim (λ e. inl e) (λ e. inr (rw here at e ∙ wanted-flag before sector scenes inside scene h))
+          (kept .partway done behind .region (sector + scene / 8) (scene % 8) (in-book before sector scenes inside (scene / 8) (omega arith)))
+
+      unlisted-bit : (scene : ℕ) → scene < 4096 → isListed scene scenes ≡ false → bit-of (done .array) scene ≡ bit-of before scene
+      unlisted-bit scene h e = ⊎-elim (λ q. q) (λ q. q ∙ rw e refl) (either scene h)
+
+      read-bit : (scene : ℕ) → scene < 4096 → bit-of before scene ≡ 0 → bit-of (done .array) scene ≡ 0
+      read-bit scene h z = ⊎-elim (λ q. q ∙ z) (λ q. q ∙ ap (cond (isListed scene scenes) 0) z ∙ zero-either (isListed scene scenes)) (either scene h)
+
+      flag-by : (scene : ℕ) → bit-of (done .array) scene ≡ bit-of before scene → isRead (done .array) sector scene ≡ isRead before sector scene
+      flag-by scene q = read-is (done .array) sector scene ∙ ap (λ (x : ℕ). eqb x 0) q ∙ sym (read-is before sector scene)
+
+  -- planned again behind a cut
+  pub mark-again : (cut : Device) → MarkLost wp chip sector scenes cut → MarkedAgain wp chip sector scenes (length buffer) cut
+  mark-again cut lost = record {
+    same-wanted = same-wanted;
+    accepted = λ buffer′ after′ r′ again enough. number-0 buffer′ after′ r′ again (kept .again cut lost (length buffer′) enough);
+    accepted-in-worst = λ buffer′ after′ r′ again enough. number-0 buffer′ after′ r′ again (kept .again-in-worst cut lost (length buffer′) enough);
+    finishes = λ done finished. all-marked (done .array) (kept .completed cut done lost (rw same-wanted at finished));
+    as-uncut = λ done uncut finished first. kept .completed cut done lost (rw same-wanted at finished) ∙ sym (kept .finished uncut first);
+  }
+    where
+      ready : Ready (chip .state .chip) cut
+      ready = kept .ready cut (inr lost)
+
+      only : OnlyListed sector scenes before (cut .array)
+      only = mark-behind cut (inr lost)
+
+      inside′ : sector + 512 ≤ length (cut .array)
+      inside′ = rw (only .beside .same-length) inside
+
+      -- a bit of either image is 0 where its scene is listed; where it is not, the cut has left it
+      same-bit : (k b : ℕ) → k < 512 → b < 8
+          → cond (isListed (k * 8 + b) scenes) 0 (bitAt (getD (cut .array) (sector + k) 0) b) ≡ cond (isListed (k * 8 + b) scenes) 0 (bitAt (getD before (sector + k) 0) b)
+      same-bit k b h l =
+          let here : sector + k - sector ≡ k = omega arith in
+          cases (isListed (k * 8 + b) scenes) (λ t. rw t refl)
+          (λ f. rw f (⊎-elim (λ q. q) (λ q. rw here at q ∙ wanted-bit before sector scenes inside k b h l ∙ rw f refl)
+          (kept .partway cut (inr lost) .region (sector + k) b (in-book before sector scenes inside k h))))
+
+      same-wanted : wantedPart (cut .array) sector scenes ≡ want
+      same-wanted =
+          let long = wanted-length (cut .array) sector scenes inside′ in
+          ext-getD 0 (wantedPart (cut .array) sector scenes) want (long ∙ sym (wanted-length before sector scenes inside))
+          (λ k h. let l : k < 512 = omega (arith, long) in
+          bits-ext 8 (getD (wantedPart (cut .array) sector scenes) k 0) (getD want k 0)
+          (wanted-bytes (cut .array) sector scenes inside′ (ready .bytes) k) (wanted-bytes before sector scenes inside bytes k)
+          (λ b g. wanted-bit (cut .array) sector scenes inside′ k b l g ∙ same-bit k b l g ∙ sym (wanted-bit before sector scenes inside k b l g)))
+
+      opened′ : Opened (cut .state) (cut .array) sector scenes
+      opened′ = record {
+        sound = ready .sound;
+        sized = ready .sized;
+        scenes-kept = opened .scenes-kept;
+        a-sector = rw (ready .same-chip) (opened .a-sector);
+      }
+
+      number-0 : (buffer′ after′ : List ℕ) (r′ : Planned) → Marks (cut .state) wp (cut .array) sector scenes buffer′ after′ r′
+          → planRefusal (cut .state) wp (cut .array) sector want (length buffer′) ≡ 0 → r′ .number ≡ 0
+      number-0 buffer′ after′ r′ again e =
+          let plans = again .planned (opened-exactly (cut .state) (cut .array) sector scenes .only-when opened′) in
+          plan-answered (cut .state) wp (cut .array) sector (wantedPart (cut .array) sector scenes) buffer′ after′ r′ plans .number-is ∙ rw same-wanted e
