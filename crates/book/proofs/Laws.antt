@@ -7,3 +7,4 @@ pub mod Marking
 pub mod Numbers
 pub mod History
 pub mod Counted
+pub mod Witness

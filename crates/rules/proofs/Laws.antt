@@ -37,4 +37,5 @@ pub mod Driver
 mod Erases
 pub mod Unread
 pub mod Worst
+pub mod Book
 pub mod Demands

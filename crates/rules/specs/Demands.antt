@@ -23,6 +23,8 @@ use Rattle.script.specs.Reader.{recordAt, framePart}
 use Rattle.run.specs.declared.Ran.{Ran}
 use Rattle.run.specs.Script.{ScriptRun}
 use Rattle.state.specs.declared.Planned.{Planned}
+use Rattle.state.specs.declared.Told.{Told}
+use Rattle.book.specs.Answers.{isReadTold, countTold, Marks}
 use Rattle.plan.specs.Update.{PlanUpdated}
 use Rattle.powercut.specs.PowerCut.{updated, Partway}
 use Rattle.samples.specs.Session.{Holds}
@@ -54,6 +56,7 @@ use Rattle.rules.specs.Play.{PlayRules}
 use Rattle.rules.specs.Driver.{SentTo, CutAt}
 use Rattle.rules.specs.Unread.{UnreadRules}
 use Rattle.rules.specs.Worst.{WorstRules}
+use Rattle.rules.specs.Book.{BookRules}
 
 -- ---- demand 1
 
@@ -82,6 +85,11 @@ pub record EveryCallAnswers : Type 0 where
       → One (λ (a : Planned × List ℕ). PlanUpdated s wp array start wanted buffer (a .1) (a .0))
   -- a script's number, counts and offset
   pub survey : (script : List ℕ) → One (λ (r : Surveyed). r ≡ surveyOf script)
+  -- a flag book's questions, and its markings: number, state and value; number, state, length and counts, and the buffer
+  pub book-is-read : (s : State) (array : List ℕ) (sector scene : ℕ) → One (λ (r : Told). r ≡ isReadTold s array sector scene)
+  pub book-count : (s : State) (array : List ℕ) (sector : ℕ) → One (λ (r : Told). r ≡ countTold s array sector)
+  pub book-mark : (s : State) (wp : Bool) (array : List ℕ) (sector : ℕ) (scenes buffer : List ℕ)
+      → One (λ (a : Planned × List ℕ). Marks s wp array sector scenes buffer (a .1) (a .0))
   -- the record at an offset, and the frame as that part of the script
   pub read : (script : List ℕ) (offset : ℕ) → One (λ (r : Record). ReadAnswered script offset r)
   pub read-part : (script : List ℕ) (offset : ℕ) → One (λ (part : List ℕ). part ≡ framePart script offset)
@@ -189,3 +197,5 @@ pub record Demands : Type 0 where
   pub unread : UnreadRules
   -- (A8) "How long can a save take?"
   pub worst : WorstRules
+  -- (A2) "The game's own flag book."
+  pub book : BookRules

@@ -23,4 +23,5 @@ pub mod Play
 pub mod Driver
 pub mod Unread
 pub mod Worst
+pub mod Book
 pub mod Demands

@@ -16,6 +16,8 @@ use Rattle.frame.specs.Call.{FrameRun, CutRun}
 use Rattle.run.specs.declared.Ran.{Ran}
 use Rattle.run.specs.Script.{ScriptRun}
 use Rattle.state.specs.declared.Planned.{Planned}
+use Rattle.state.specs.declared.Told.{Told}
+use Rattle.book.specs.Answers.{isReadTold, countTold, Marks}
 use Rattle.plan.specs.Update.{PlanUpdated}
 use Rattle.rules.specs.Chips.{byChip}
 
@@ -81,3 +83,7 @@ pub record EveryCallSound : Type 0 where
       → ScriptRun wp script d output ran after shown → IsSound (d .state) → IsSound (ran .state) × IsSound (after .state)
   pub plan-update : (s : State) (wp : Bool) (array : List ℕ) (start : ℕ) (wanted buffer after : List ℕ) (planned : Planned)
       → PlanUpdated s wp array start wanted buffer after planned → IsSound s → IsSound (planned .state)
+  pub book-is-read : (s : State) (array : List ℕ) (sector scene : ℕ) (told : Told) → told ≡ isReadTold s array sector scene → IsSound s → IsSound (told .state)
+  pub book-count : (s : State) (array : List ℕ) (sector : ℕ) (told : Told) → told ≡ countTold s array sector → IsSound s → IsSound (told .state)
+  pub book-mark : (s : State) (wp : Bool) (array : List ℕ) (sector : ℕ) (scenes buffer after : List ℕ) (planned : Planned)
+      → Marks s wp array sector scenes buffer after planned → IsSound s → IsSound (planned .state)

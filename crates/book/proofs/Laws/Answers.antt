@@ -13,7 +13,7 @@ use Rattle.state.specs.declared.Planned.{Planned}
 use Rattle.state.specs.Answer.{toldOf, refusedPlan}
 use Rattle.state.proofs.Laws.Told.{told-value, told-refused}
 use Rattle.promises.specs.Promises.{Plans}
-use Rattle.promises.proofs.Laws.Answered.{plans-determined}
+use Rattle.promises.proofs.Laws.Answered.{plans-determined, plan-answered}
 use Rattle.book.specs.Book.{isRead, countRead, wantedPart}
 use Rattle.book.specs.Refusals.{bookRefusal}
 use Rattle.book.specs.Answers.{isReadTold, countTold, Marks}
@@ -32,6 +32,10 @@ module _ (s : State) (array : List ℕ) (sector : ℕ) where
     unfolding isReadTold
     is-read-told e = told-value (bookRefusal s array sector (scene ∷ [])) s (bit (isRead array sector scene) 1) e
 
+    pub is-read-state : isReadTold s array sector scene .state ≡ s
+    unfolding isReadTold
+    is-read-state = refl
+
     pub is-read-determined : (r₁ r₂ : Told) → r₁ ≡ isReadTold s array sector scene → r₂ ≡ isReadTold s array sector scene → r₁ ≡ r₂
     is-read-determined r₁ r₂ p q = p ∙ sym q
 
@@ -43,6 +47,10 @@ module _ (s : State) (array : List ℕ) (sector : ℕ) where
   pub count-told : bookRefusal s array sector [] ≡ 0 → countTold s array sector ≡ record { number = 0; state = s; value = countRead array sector }
   unfolding countTold
   count-told e = told-value (bookRefusal s array sector []) s (countRead array sector) e
+
+  pub count-state : countTold s array sector .state ≡ s
+  unfolding countTold
+  count-state = refl
 
   pub count-determined : (r₁ r₂ : Told) → r₁ ≡ countTold s array sector → r₂ ≡ countTold s array sector → r₁ ≡ r₂
   count-determined r₁ r₂ p q = p ∙ sym q
@@ -62,6 +70,24 @@ module _ (s : State) (wp : Bool) (array : List ℕ) (sector : ℕ) (scenes buffe
   pub marks-planned : (after : List ℕ) (r : Planned) → number ≡ 0 → Plans s wp array sector (wantedPart array sector scenes) buffer after r
       → Marks s wp array sector scenes buffer after r
   marks-planned after r e p = record { refused = λ n g q. absurd (omega (arith, e, q)); planned = λ _. p }
+
+  pub marks-state : (after : List ℕ) (r : Planned) → Marks s wp array sector scenes buffer after r → r .state ≡ s
+  marks-state after r m =
+      elim (ℕ-discrete number 0) [
+        | yes e ↦ plan-answered s wp array sector (wantedPart array sector scenes) buffer after r (m .planned e) .state-given
+        | no n ↦ ap (λ (p : Planned). p .state) (m .refused number (omega arith) refl .0)
+      ]
+
+  -- a refusal says nothing but its number, and leaves every byte of the buffer
+  pub marks-untouched : (after : List ℕ) (r : Planned) → Marks s wp array sector scenes buffer after r → 0 < r .number
+      → (r ≡ refusedPlan (r .number) s) × (after ≡ buffer)
+  marks-untouched after r m h =
+      elim (ℕ-discrete number 0) [
+        | yes e ↦ plan-answered s wp array sector (wantedPart array sector scenes) buffer after r (m .planned e) .refused-untouched h
+        | no n ↦
+            let x = m .refused number (omega arith) refl in
+            (x .0 ∙ ap (λ (k : ℕ). refusedPlan k s) (sym (ap (λ (p : Planned). p .number) (x .0))), x .1)
+      ]
 
   -- two answers to one call are equal, by the planner's promise alone
   pub marks-determined : (after₁ after₂ : List ℕ) (r₁ r₂ : Planned) → Marks s wp array sector scenes buffer after₁ r₁

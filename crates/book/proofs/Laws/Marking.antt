@@ -18,7 +18,7 @@ use Rattle.common.proofs.Laws.Lists.{split}
 use Rattle.common.proofs.Laws.Places.{within-yes}
 use Rattle.state.specs.declared.Planned.{Planned}
 use Rattle.state.specs.State.{dataOf}
-use Rattle.promises.specs.Promises.{Device, planRefusal, updated, Partway, Ready, Answered, Promises}
+use Rattle.promises.specs.Promises.{Device, Plans, planRefusal, updated, Partway, Ready, Answered, Promises}
 use Rattle.promises.proofs.Laws.Answered.{plan-answered}
 use Rattle.promises.proofs.Laws.Promises.{promises-kept, updated-at, updated-partway}
 use Rattle.book.specs.Book.{isRead, usedPart, marked, wantedPart, isListed}
@@ -92,8 +92,11 @@ module _ (wp : Bool) (chip : Device) (sector : ℕ) (scenes buffer after : List 
   pub inside : sector + 512 ≤ length before
   inside = book-inside (chip .state) before sector scenes opened
 
+  pub plan-of : Plans (chip .state) wp before sector want buffer after r
+  plan-of = marks .planned no-refusal
+
   pub answered : Answered (chip .state) wp before sector want buffer after r
-  answered = plan-answered (chip .state) wp before sector want buffer after r (marks .planned no-refusal)
+  answered = plan-answered (chip .state) wp before sector want buffer after r plan-of
 
   pub kept : Promises wp chip sector want (length buffer)
   kept = promises-kept wp chip sector want (length buffer) bytes (sym (answered .number-is) ∙ good)

@@ -12,10 +12,11 @@ use Rattle.common.specs.Lists.{within}
 use Rattle.common.proofs.Laws.Choice.{cases}
 use Rattle.state.specs.declared.State.{State}
 use Rattle.state.specs.State.{withWel, withArmed}
+use Rattle.state.specs.Power.{atRest}
 use Rattle.script.specs.Record.{Record}
 use Rattle.frame.specs.Device.{Device}
 use Rattle.plan.specs.Plan.{planRecords}
-use Rattle.plan.specs.Refusals.{planRefusal}
+use Rattle.plan.specs.Refusals.{isActive, planRefusal}
 use Rattle.plan.proofs.Laws.Refusals.{accepted-of}
 use Rattle.worst.specs.Worst.{roomEnough}
 use Rattle.worst.proofs.Laws.Worst.{accepted-in-worst}
@@ -49,6 +50,11 @@ promises-kept wp chip start wanted room bytes e =
           accepted-in-worst (cut .state) wp (cut .array) start wanted (room + 22) more (safe .cut cut c .accepted (room + 22) (le-refl (room + 22))) enough;
       completed = λ cut after c f. ap (λ (d : Device). d .array) f ∙ safe .cut cut c .completes .array-is;
     }
+
+-- a chip that was just made or powered up is at rest
+pub calm-at-rest : (chip bp : ℕ) (tb bpl : Bool) → isActive (atRest chip bp tb bpl) ≡ false
+unfolding isActive
+calm-at-rest chip bp tb bpl = refl
 
 -- ---- from the promises alone
 

@@ -42,7 +42,7 @@ pub means-not-sound : (s : State) → Exactly (not (isSound s) ≡ true) (NotSou
 means-not-sound s = means-not (isSound s) (soundness s .sound-when)
 
 module _ (s : State) (sound : isSound s ≡ true) where
-  size-is : dataOf s .size ≡ size s
+  pub size-is : dataOf s .size ≡ size s
   size-is = data-by-chip (s .chip) (sound-of s sound .chip-known) (λ c. c .size)
 
   pub means-wrong-array : (array : List ℕ) → Exactly (not (eqb (length array) (dataOf s .size)) ≡ true) (WrongArray s array)

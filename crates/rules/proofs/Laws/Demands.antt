@@ -3,11 +3,15 @@
 use mathlib.Core.Path.{_≡_, refl, sym, _∙_}
 use mathlib.Core.Bool.{Bool, true}
 use mathlib.Core.List.{List}
+use mathlib.Core.Logic.{⊎-elim}
 use Prim.Native.Nat.{ℕ}
+use native.Mathlib.Omega.{arith}
 use lib.ListN.{length}
+use Rattle.common.proofs.Laws.Lists.{split}
 use Rattle.chip.specs.declared.Chip.{Chip}
 use Rattle.state.specs.declared.State.{State}
 use Rattle.state.specs.State.{dataOf}
+use Rattle.state.specs.Answer.{refusedPlan}
 use Rattle.state.specs.Soundness.{isSound}
 use Rattle.state.specs.Power.{newChip, powerUp}
 use Rattle.state.specs.Time.{passTime}
@@ -25,9 +29,13 @@ use Rattle.run.specs.Script.{scriptNumber, scriptDevice, scriptOutput, scriptCo
 use Rattle.run.proofs.Laws.Script.{run-script-determined}
 use Rattle.state.specs.declared.Planned.{Planned}
 use Rattle.plan.specs.Refusals.{planRefusal}
-use Rattle.plan.specs.Update.{givenRecords, atFront, PlanUpdated}
+use Rattle.plan.specs.Update.{givenRecords, atFront, PlanUpdated, Plans}
 use Rattle.plan.proofs.Laws.Update.{plan-update-determined}
 use Rattle.samples.proofs.Laws.Sessions.{samples-hold}
+use Rattle.book.specs.Book.{wantedPart}
+use Rattle.book.specs.Refusals.{bookRefusal}
+use Rattle.book.specs.Answers.{isReadTold, countTold, Marks}
+use Rattle.book.proofs.Laws.Answers.{marks-refused, marks-planned, marks-determined}
 use Rattle.host.specs.declared.reader.Record.{Record}
 use Rattle.host.specs.Read.{recordOf, ReadAnswered}
 use Rattle.host.proofs.Laws.Determined.{zeradok-read-determined}
@@ -63,6 +71,7 @@ use Rattle.rules.proofs.Laws.Play.{play-rules}
 use Rattle.rules.proofs.Laws.Driver.{no-cut-hurts}
 use Rattle.rules.proofs.Laws.Unread.{unread-rules}
 use Rattle.rules.proofs.Laws.Worst.{worst-rules}
+use Rattle.rules.proofs.Laws.Book.{book-rules}
 
 -- ---- demand 1
 
@@ -133,6 +142,25 @@ plan-answers s wp array start wanted buffer =
       only = λ other p i. let e = plan-update-determined s wp array start wanted buffer _ _ _ _ p made in (e .0 i, e .1 i);
     }
 
+-- the book's own refusal, or the plan's one answer
+mark-answers : (s : State) (wp : Bool) (array : List ℕ) (sector : ℕ) (scenes buffer : List ℕ)
+    → One (λ (a : Planned × List ℕ). Marks s wp array sector scenes buffer (a .1) (a .0))
+unfolding Plans
+mark-answers s wp array sector scenes buffer =
+    let number : ℕ = bookRefusal s array sector scenes in
+    ⊎-elim (λ h. only-one (refusedPlan number s) buffer (marks-refused s wp array sector scenes buffer number h refl))
+    (λ h. let plan = plan-answers s wp array sector (wantedPart array sector scenes) buffer in
+    only-one (plan .answer .0) (plan .answer .1) (marks-planned s wp array sector scenes buffer (plan .answer .1) (plan .answer .0) (omega arith) (plan .given)))
+    (split 0 number)
+  where
+    only-one : (planned : Planned) (after : List ℕ) → Marks s wp array sector scenes buffer after planned
+        → One (λ (a : Planned × List ℕ). Marks s wp array sector scenes buffer (a .1) (a .0))
+    only-one planned after made = record {
+      answer = (planned, after);
+      given = made;
+      only = λ other p i. let e = marks-determined s wp array sector scenes buffer _ _ _ _ p made in (e .0 i, e .1 i);
+    }
+
 read-answers : (script : List ℕ) (offset : ℕ) → One (λ (r : Record). ReadAnswered script offset r)
 read-answers script offset =
     let found = record-at-answered script offset refl in
@@ -157,6 +185,9 @@ answers = record {
   run-script = script-answers;
   plan-update = plan-answers;
   survey = λ script. named (surveyOf script);
+  book-is-read = λ s array sector scene. named (isReadTold s array sector scene);
+  book-count = λ s array sector. named (countTold s array sector);
+  book-mark = mark-answers;
   read = read-answers;
   read-part = λ script offset. named (framePart script offset);
 }
@@ -227,4 +258,5 @@ demands-met = record {
   samples = samples-hold;
   unread = unread-rules;
   worst = worst-rules;
+  book = book-rules;
 }

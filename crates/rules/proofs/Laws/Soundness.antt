@@ -18,6 +18,8 @@ use Rattle.state.proofs.Laws.Passed.{pass-time-sound}
 use Rattle.frame.specs.Device.{Device}
 use Rattle.frame.proofs.Laws.Sound.{frame-sound, cut-sound}
 use Rattle.run.proofs.Laws.Script.{script-sound}
+use Rattle.state.specs.declared.Told.{Told}
+use Rattle.book.proofs.Laws.Answers.{is-read-state, count-state, marks-state}
 use Rattle.rules.specs.Soundness.{SoundState, Soundness, EveryCallSound}
 use Rattle.rules.proofs.Laws.Chips.{data-by-chip}
 use Rattle.rules.proofs.Laws.Tests.{off}
@@ -109,4 +111,7 @@ every-call-sound = record {
     ap (λ (e : Device). isSound (e .state)) (r .device-is) ∙ script-sound wp script d output h,
   );
   plan-update = λ s wp array start wanted buffer after planned r h. ap isSound (r .state) ∙ h;
+  book-is-read = λ s array sector scene told e h. ap (λ (t : Told). isSound (t .state)) e ∙ ap isSound (is-read-state s array sector scene) ∙ h;
+  book-count = λ s array sector told e h. ap (λ (t : Told). isSound (t .state)) e ∙ ap isSound (count-state s array sector) ∙ h;
+  book-mark = λ s wp array sector scenes buffer after planned m h. ap isSound (marks-state s wp array sector scenes buffer after planned m) ∙ h;
 }

@@ -26,7 +26,7 @@ use Rattle.rules.proofs.Laws.Driver.{cut-lost}
 worst-by-chip : (s : State) → isSound s ≡ true → (part : Measure → ℕ) → part (worstOf (dataOf s)) ≡ byChip (s .chip) (part (worstOf f25l008a)) (part (worstOf f25l05pa))
 worst-by-chip s sound part = data-by-chip (s .chip) (sound-of s sound .chip-known) (λ (c : Chip). part (worstOf c))
 
-worst-bytes : (s : State) → isSound s ≡ true → worstOf (dataOf s) .length ≡ worstBytes (s .chip)
+pub worst-bytes : (s : State) → isSound s ≡ true → worstOf (dataOf s) .length ≡ worstBytes (s .chip)
 worst-bytes s sound = worst-by-chip s sound (λ (m : Measure). m .length)
 
 pub worst-rules : WorstRules
