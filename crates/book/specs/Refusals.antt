@@ -3,9 +3,9 @@
 use mathlib.Core.Path.{_≡_}
 use mathlib.Core.Bool.{Bool, true, false, not, _&&_, _||_}
 use mathlib.Core.List.{List, [], _∷_, _++_}
-use Prim.Native.Nat.{ℕ, _%_, _<_}
+use Prim.Native.Nat.{ℕ, _%_}
 use lib.Dec.{eqb, ltb}
-use lib.ListN.{length, getD}
+use lib.ListN.{length}
 use Rattle.common.specs.Refusals.{stateNotSound, wrongArray, wrongBook, firstOf}
 use Rattle.state.specs.declared.State.{State}
 use Rattle.state.specs.State.{dataOf}
@@ -39,15 +39,7 @@ abbrev pub markRefusals : State → Bool → List ℕ → ℕ → List ℕ → �
 markRefusals s wp array sector scenes room =
     bookRefusals s (length array) sector (hasOver scenes) ++ laterRefusals s wp array sector (wantedPart array sector scenes) room
 
--- ---- the same in words
-
--- "a scene over 4,095" stands somewhere in the list
-pub record SceneOver (scenes : List ℕ) : Type 0 where
-  pub place : ℕ
-  pub inside : place < length scenes
-  pub over : 4095 < getD scenes place 0
-
--- none of the book's own holds
+-- none of the book's own holds, in words
 pub record Opened (s : State) (array : List ℕ) (sector : ℕ) (scenes : List ℕ) : Type 0 where
   pub sound : isSound s ≡ true
   pub sized : length array ≡ dataOf s .size

@@ -24,14 +24,18 @@ use Rattle.rules.specs.Conditions.{NotSound, size, WrongArray, NotAtRest
 use Rattle.rules.specs.Numbered.{_when_, Numbered}
 use Rattle.rules.specs.Driver.{SentTo, CutAt}
 use Rattle.rules.specs.Worst.{worstBytes}
--- "a scene over 4,095", as a place of the list
-pub use Rattle.book.specs.Refusals.{SceneOver}
 
 -- "4,096 scenes by position in one sector of 512 used bytes: scene s is bit s modulo 8, lowest first, of byte s / 8; 1 is unread"
 abbrev pub flag : List ℕ → ℕ → ℕ → ℕ
 flag array sector scene = bitAt (getD array (sector + scene / 8) 0) (scene % 8)
 
 -- ---- the refusals
+
+-- "a scene over 4,095" stands somewhere in the list
+pub record SceneOver (scenes : List ℕ) : Type 0 where
+  pub place : ℕ
+  pub inside : place < length scenes
+  pub over : 4095 < getD scenes place 0
 
 -- 15: "a scene over 4,095 or a sector start that isn't a multiple of 4,096 inside the chip"
 abbrev pub WrongBook : State → ℕ → List ℕ → Type 0

@@ -9,12 +9,13 @@ use native.Mathlib.Omega.{arith}
 use lib.Dec.{eqb, ltb}
 use lib.ListN.{length, getD, drop, drop-of-length-le}
 use lib.Seq.{drop-cons}
-use borrow.Author.Tests.{eq-eqb, eqb-true, ltb-true, ltb-false}
+use borrow.Author.Tests.{eq-eqb, eqb-true, ltb-false}
 use Rattle.common.specs.Refusals.{Exactly}
 use Rattle.common.proofs.Laws.Booleans.{or-imp, or-none-l, or-none-r}
 use Rattle.common.proofs.Laws.Choice.{cases}
+use Rattle.common.proofs.Laws.Places.{Passing}
 use Rattle.book.specs.Book.{isListed}
-use Rattle.book.specs.Refusals.{hasOver, SceneOver}
+use Rattle.book.specs.Refusals.{hasOver}
 
 -- ---- a scene over 4,095
 
@@ -55,20 +56,15 @@ none-over [] e i h = absurd (omega arith)
 none-over (scene ∷ scenes) e zero h = omega (arith, ltb-false 4095 scene (or-none-l (ltb 4095 scene) (hasOver scenes) e))
 none-over (scene ∷ scenes) e (suc i) h = none-over scenes (or-none-r (ltb 4095 scene) (hasOver scenes) e) i (omega arith)
 
-over-stands : (scenes : List ℕ) → hasOver scenes ≡ true → SceneOver scenes
+-- one is, at some index
+pub over-stands : (scenes : List ℕ) → hasOver scenes ≡ true → Passing (λ i. ltb 4095 (getD scenes i 0)) (length scenes)
 unfolding hasOver
 over-stands [] e = absurd (false≢true e)
 over-stands (scene ∷ scenes) e =
     cases (ltb 4095 scene)
-    (λ t. record { place = 0; inside = omega arith; over = ltb-true 4095 scene t })
+    (λ t. record { place = 0; below = omega arith; passes = t })
     (λ f. let o = over-stands scenes (or-imp (ltb 4095 scene) (hasOver scenes) e f) in
-    record { place = suc (o .place); inside = omega (arith, o .inside); over = o .over })
-
-pub over-exactly : (scenes : List ℕ) → Exactly (hasOver scenes ≡ true) (SceneOver scenes)
-over-exactly scenes = record {
-  when = over-stands scenes;
-  only-when = λ o. cases (hasOver scenes) (λ t. t) (λ f. absurd (omega (arith, none-over scenes f (o .place) (o .inside), o .over)));
-}
+    record { place = suc (o .place); below = omega (arith, o .below); passes = o .passes })
 
 -- ---- a scene of the list
 

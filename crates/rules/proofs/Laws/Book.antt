@@ -8,7 +8,7 @@ use Prim.Native.Nat.{ℕ, _+_, _/_, _%_, _<_}
 use native.Mathlib.Omega.{arith}
 use lib.Dec.{eqb}
 use lib.ListN.{length, getD, take}
-use borrow.Author.Tests.{not-false, eq-eqb, ne-eqb, eqb-true, eqb-false}
+use borrow.Author.Tests.{not-false, eq-eqb, ne-eqb, eqb-true, eqb-false, ltb-true}
 use Rattle.common.specs.Bits.{Bytes, bit}
 use Rattle.common.specs.Refusals.{Exactly}
 use Rattle.common.proofs.Laws.Bits.{bit-lt}
@@ -32,7 +32,7 @@ use Rattle.book.specs.Book.{isRead, countRead, wantedPart, isListed}
 use Rattle.book.specs.Refusals.{hasOver, isSector, bookRefusals, bookRefusal, markRefusals}
 use Rattle.book.specs.Answers.{isReadTold, countTold, Marks}
 use Rattle.book.specs.Marking.{BesideKept, AllMarked, OnlyListed, MarkedAgain}
-use Rattle.book.proofs.Laws.Listed.{none-over, over-exactly, is-listed-exactly}
+use Rattle.book.proofs.Laws.Listed.{none-over, over-stands, is-listed-exactly}
 use Rattle.book.proofs.Laws.Read.{read-is, count-is}
 use Rattle.book.proofs.Laws.Refusals.{refusal-of, sector-exactly}
 use Rattle.book.proofs.Laws.Answers.{marks-untouched}
@@ -42,7 +42,7 @@ use Rattle.book.proofs.Laws.History.{only-asked-read}
 use Rattle.rules.specs.Conditions.{NotSound, size, WrongArray}
 use Rattle.rules.specs.Numbered.{_when_, Numbered}
 use Rattle.rules.specs.Driver.{CutAt}
-use Rattle.rules.specs.Book.{flag, WrongBook, IsReadRules, CountRules, MarkRefusals, Beside, Unlisted, BookMarked, BookCut, MarkingRules, BookRules}
+use Rattle.rules.specs.Book.{flag, SceneOver, WrongBook, IsReadRules, CountRules, MarkRefusals, Beside, Unlisted, BookMarked, BookCut, MarkingRules, BookRules}
 use Rattle.rules.proofs.Laws.Tests.{means-less, means-not, means-or}
 use Rattle.rules.proofs.Laws.Numbered.{row, numbered}
 use Rattle.rules.proofs.Laws.Conditions.{size-is, means-not-sound, means-wrong-array, means-not-at-rest, means-locked}
@@ -51,11 +51,17 @@ use Rattle.rules.proofs.Laws.Worst.{worst-bytes}
 
 -- ---- the refusals
 
+means-over : (scenes : List ℕ) → Exactly (hasOver scenes ≡ true) (SceneOver scenes)
+means-over scenes = record {
+  when = λ e. let o = over-stands scenes e in record { place = o .place; inside = o .below; over = ltb-true 4095 (getD scenes (o .place) 0) (o .passes) };
+  only-when = λ w. cases (hasOver scenes) (λ t. t) (λ f. absurd (omega (arith, none-over scenes f (w .place) (w .inside), w .over)));
+}
+
 module _ (s : State) (sector : ℕ) (scenes : List ℕ) where
   means-wrong-book : isSound s ≡ true → Exactly (hasOver scenes || not (isSector (dataOf s .size) sector) ≡ true) (WrongBook s sector scenes)
   means-wrong-book sound =
       rw (size-is s sound)
-      (means-or (hasOver scenes) (not (isSector (size s) sector)) (over-exactly scenes) (means-not (isSector (size s) sector) (sector-exactly (size s) sector)))
+      (means-or (hasOver scenes) (not (isSector (size s) sector)) (means-over scenes) (means-not (isSector (size s) sector) (sector-exactly (size s) sector)))
 
   -- of a question
   own-numbers : (array : List ℕ) (number : ℕ) → number ≡ bookRefusal s array sector scenes
