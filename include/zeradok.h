@@ -3,24 +3,26 @@
  *
  * A chip is a zeradok_state and an array of exactly its size: 1,048,576 bytes (F25L008A, chip number 8) or 65,536 (F25L05PA, 5).
  * The calls keep nothing between them. Each answers any arguments that keep the rules below: 0, or the number of the first refusal
- * that holds. A refused call writes through no pointer and gives back the state that it got, with lengths and counts 0.
+ * that holds. A refused call writes through no pointer and gives back the state that it got, with lengths, counts and values 0.
  *
  * What a caller owes, which no call can test:
  *  - a slice is a pointer and a length, and all bytes of the length can be read, and written where the pointer is not const.
- *    An empty slice may have any pointer, NULL too;
- *  - `chip` of the frame calls points to one zeradok_state, aligned as C aligns it;
+ *    An empty slice may have any pointer, NULL too. The length of `scenes` counts its numbers, not its bytes;
+ *  - `chip` of the frame calls points to one zeradok_state, and `scenes` to its first number, each aligned as C aligns it;
  *  - what a call may write (the state behind `chip`, array, output, buffer) overlaps nothing else that the same call is passed;
  *    what it only reads may overlap;
  *  - every bool, in a state too, is 0 or 1; no other thread writes what a call was passed while it runs.
  * A state needs no further care: the calls refuse one that no chip can be in.
  *
- * A save (examples/c/save.c has it whole):
+ * A save (examples/c/save.c has it whole, over driver.h):
  *  1. zeradok_plan writes a script for the wanted bytes; what to do at each of its refusals is said there;
  *  2. zeradok_read gives the records one by one, the first at offset 0 and each further at `next`, until kind 3, the end. Send each frame, its
  *     bytes between one select and deselect, and wait each wait, in this order;
  *  3. after a power cut power up (zeradok_cut_frame has done so) and plan the same bytes again, from the array as it is now and with 22 bytes
  *     more room, or with ZERADOK_WORST_BYTES every time: that is accepted. By then each bit of those bytes is as before or as wanted, and
  *     nothing else has moved. (The F25L05PA may stand unprotected.)
+ * A game with one flag a scene needs no wanted bytes, if it keeps its flags in the flag book (below; examples/c/book.c). zeradok_book_mark is then
+ * called in place of zeradok_plan, in 1 and in 3, where the same list is marked again.
  * Beside a real chip the model gets each frame and wait too, so that state and array stay the chip's; after power-up the array is read back
  * (03). The waits are the sheets' typical times: wait on until bit 0 of the status (05) is 0. The F25L05PA's status write (01) takes no time
  * here but up to 15 ms there (40 ms below 2.7 V): wait for bit 0 behind it as well. A 05 between 06 or 50 and the 01 would spoil the 01.
@@ -38,8 +40,8 @@
 extern "C" {
 #endif
 
-/* The worst case of an accepted plan. None is above it, and each number is reached: on the F25L05PA all by one plan, on the F25L008A the bytes with
- * the frames or with the microseconds.
+/* The worst case of an accepted plan, zeradok_book_mark's too. None is above it, and zeradok_plan reaches each number: on the F25L05PA all by one
+ * plan, on the F25L008A the bytes with the frames or with the microseconds.
  *               bytes   frames   microseconds
  *   F25L008A   26,672    3,079         14,343
  *   F25L05PA    4,441       38         25,500
@@ -65,6 +67,9 @@ typedef struct { uint32_t number; zeradok_state state; uint32_t length, frames, 
 
 /* kind: 0 refused, 1 frame, 2 wait, 3 end. start and length (the frame's bytes in the script) are 0 unless it is a frame, microseconds unless it is a wait. */
 typedef struct { uint32_t number, kind; size_t start, length; uint32_t microseconds; size_t next; } zeradok_record;
+
+/* A question's answer: 1 or 0, or how many; 0 with a refusal. */
+typedef struct { uint32_t number; zeradok_state state; uint32_t value; } zeradok_told;
 
 /* A new chip: its state, the array being erased, all FF. An F25L008A has this state after every power-up; an F25L05PA keeps bp, tb and bpl, which
  * are bits 2 to 4, 5 and 7 of its status (05). Refusal 1: an unknown chip number (the state is then a new F25L05PA). Changes nothing. */
@@ -114,6 +119,29 @@ zeradok_ran zeradok_run(zeradok_state chip, bool wp_high, uint8_t *array, size_t
 /* Reads the record at an offset of a script; next is the offset behind it, and the given one for a refusal and at the end. Changes nothing.
  * Refusals: 11 script over 32,768 bytes, 12 to 14 of this record as zeradok_survey has them, 14 also where the offset is past the end. */
 zeradok_record zeradok_read(const uint8_t *script, size_t script_length, size_t offset);
+
+/* The flag book keeps 4,096 scenes by position in one sector, a bit each: 1 is unread, 0 is read. `sector` is the address where the sector starts;
+ * scene s is bit s % 8, lowest first, of byte s / 8 from there. So 512 bytes are used, and the sector's other 3,584 are not looked at. In an
+ * erased sector no scene is read, and only an erase makes one unread again. Scene numbers are 32 bits wide, so that one too large is refused and
+ * not cut to another scene's. */
+
+/* Tells whether the scene is read: 1, or 0. It looks at the array alone: a chip that is busy, in AAI or in power-down is not refused. Changes
+ * nothing; the state comes back as given. Refusals, all slips of the program: 1 state, 2 array length, 15 a scene over 4,095 or a sector start that
+ * isn't a multiple of 4,096 inside the chip. */
+zeradok_told zeradok_book_is_read(zeradok_state chip, const uint8_t *array, size_t array_length, size_t sector, uint32_t scene);
+
+/* Tells how many scenes are read: 0 to 4,096. Changes nothing and is refused as above, with 15 for the sector start only. */
+zeradok_told zeradok_book_count(zeradok_state chip, const uint8_t *array, size_t array_length, size_t sector);
+
+/* Plans the script that marks the listed scenes as read, at the front of buffer. Changes buffer only; the state comes back as given. The list may be
+ * of any length and have a scene more than once. Where it is empty, or all of it is read already, the script is empty. Refusals, in this order:
+ * 1 state, 2 array length, 15 as above, for the sector start and any scene of the list: slips of the program;
+ * 7 not at rest, 9 protected with BPL 1 and WP low, 10 the buffer is too short: what to do at each is said at zeradok_plan. Its 6 and 8 never come,
+ * since the 512 bytes are in the chip and no 1 is wanted.
+ * After a power cut no scene outside the list has turned read, and none has turned unread. Mark the same list again, with 22 bytes more room or with
+ * ZERADOK_WORST_BYTES every time: that is accepted, and once sent it leaves exactly the listed scenes read besides those that were. */
+zeradok_planned zeradok_book_mark(zeradok_state chip, bool wp_high, const uint8_t *array, size_t array_length, size_t sector,
+                                  const uint32_t *scenes, size_t scenes_length, uint8_t *buffer, size_t buffer_length);
 
 #ifdef __cplusplus
 }

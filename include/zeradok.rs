@@ -90,6 +90,14 @@ pub struct Record {
     pub next: usize,
 }
 
+#[repr(C)]
+#[derive(Clone, Copy, Debug, PartialEq, Eq)]
+pub struct Told {
+    pub number: u32,
+    pub state: State,
+    pub value: u32,
+}
+
 #[link(name = "host", kind = "static")]
 unsafe extern "C" {
     safe fn zeradok_new(chip: u8) -> Answer;
@@ -140,6 +148,30 @@ unsafe extern "C" {
         output_length: usize,
     ) -> Ran;
     fn zeradok_read(script: *const u8, script_length: usize, offset: usize) -> Record;
+    fn zeradok_book_is_read(
+        chip: State,
+        array: *const u8,
+        array_length: usize,
+        sector: usize,
+        scene: u32,
+    ) -> Told;
+    fn zeradok_book_count(
+        chip: State,
+        array: *const u8,
+        array_length: usize,
+        sector: usize,
+    ) -> Told;
+    fn zeradok_book_mark(
+        chip: State,
+        wp_high: bool,
+        array: *const u8,
+        array_length: usize,
+        sector: usize,
+        scenes: *const u32,
+        scenes_length: usize,
+        buffer: *mut u8,
+        buffer_length: usize,
+    ) -> Planned;
 }
 
 // Every unsafe call below lends pointers and lengths of live slices, for the call alone, and no
@@ -246,4 +278,35 @@ pub fn run(chip: State, wp_high: bool, array: &mut [u8], script: &[u8], output: 
 
 pub fn read(script: &[u8], offset: usize) -> Record {
     unsafe { zeradok_read(script.as_ptr(), script.len(), offset) }
+}
+
+pub fn book_is_read(chip: State, array: &[u8], sector: usize, scene: u32) -> Told {
+    unsafe { zeradok_book_is_read(chip, array.as_ptr(), array.len(), sector, scene) }
+}
+
+pub fn book_count(chip: State, array: &[u8], sector: usize) -> Told {
+    unsafe { zeradok_book_count(chip, array.as_ptr(), array.len(), sector) }
+}
+
+pub fn book_mark(
+    chip: State,
+    wp_high: bool,
+    array: &[u8],
+    sector: usize,
+    scenes: &[u32],
+    buffer: &mut [u8],
+) -> Planned {
+    unsafe {
+        zeradok_book_mark(
+            chip,
+            wp_high,
+            array.as_ptr(),
+            array.len(),
+            sector,
+            scenes.as_ptr(),
+            scenes.len(),
+            buffer.as_mut_ptr(),
+            buffer.len(),
+        )
+    }
 }

@@ -52,6 +52,11 @@ FIELD(zeradok_record, length, 16);
 FIELD(zeradok_record, microseconds, 24);
 FIELD(zeradok_record, next, 32);
 
+SIZE(zeradok_told, 24);
+FIELD(zeradok_told, number, 0);
+FIELD(zeradok_told, state, 4);
+FIELD(zeradok_told, value, 20);
+
 static_assert(ZERADOK_WORST_BYTES == 26672, "ZERADOK_WORST_BYTES");
 static_assert(ZERADOK_WORST_FRAMES == 3079, "ZERADOK_WORST_FRAMES");
 static_assert(ZERADOK_WORST_MICROSECONDS == 25500, "ZERADOK_WORST_MICROSECONDS");

@@ -1,4 +1,4 @@
-/* 01's sample sessions, a plan of each chip and the refusals 1 to 14, by a C program that knows include/zeradok.h and nothing else.
+/* 01's sample sessions, a plan of each chip, the flag book and the refusals 1 to 15, by a C program that knows include/zeradok.h and nothing else.
  * Every byte of each output and of the array is compared. */
 #include "zeradok.h"
 
@@ -219,16 +219,27 @@ static const uint8_t listed[] = {
     0xFF, 0x00,
     0xFF, 0xFF, 0xFF, 0xFF, 0xA5, 0xFF,
 };
-static uint8_t buffer[64], untouched[64];
+static uint8_t buffer[ZERADOK_WORST_BYTES], untouched[ZERADOK_WORST_BYTES];
 
-/* plans for one wanted byte, or none, in so much room; where it is refused the buffer keeps its A5 */
-static bool plans(size_t start, const uint8_t *wanted, size_t count, size_t room, zeradok_planned answer)
+static void fill_buffers(void)
 {
     memset(buffer, 0xA5, sizeof buffer);
     memset(untouched, 0xA5, sizeof untouched);
-    zeradok_planned p = zeradok_plan(chip, wp_high, array, size, start, wanted, count, buffer, room);
+}
+
+/* the answer of a plan, its state aside, and behind its script the A5 of the buffer: where it is refused all of them */
+static bool answers(zeradok_planned p, zeradok_planned answer)
+{
     return p.number == answer.number && same_state(p.state, chip) && p.length == answer.length && p.frames == answer.frames
-        && p.microseconds == answer.microseconds && memcmp(buffer + p.length, untouched, sizeof buffer - p.length) == 0;
+        && p.microseconds == answer.microseconds && memcmp(buffer + p.length, untouched, sizeof buffer - p.length) == 0
+        && memcmp(array, expected, size) == 0;
+}
+
+/* plans for the wanted bytes, or none, in so much room */
+static bool plans(size_t start, const uint8_t *wanted, size_t count, size_t room, zeradok_planned answer)
+{
+    fill_buffers();
+    return answers(zeradok_plan(chip, wp_high, array, size, start, wanted, count, buffer, room), answer);
 }
 
 static bool plan_refused(uint32_t number, size_t start, const uint8_t *wanted, size_t count, size_t room)
@@ -290,7 +301,7 @@ static bool plan_refusals(void)
 static bool listing_whole(void)
 {
     return erased(F25L05PA) && becomes(0x0100, 0xA5) && runs_script(listing, sizeof listing, listed, sizeof listed, 5, 1500) && status("00")
-        && runs_script(NULL, 0, NULL, 0, 0, 0);
+        && runs_script(NULL, 0, shown, 0, 0, 0);
 }
 
 static bool surveys(const uint8_t *script, size_t length, zeradok_surveyed answer)
@@ -413,6 +424,236 @@ static bool cut(void)
     return ready && ran && zeradok_cut_frame(&chip, wp_high, array, size, read_status, 1, output, 1, NULL, 0) == 0;
 }
 
+/* ---- the flag book: the scenes 0 and 9 in the first sector, the last scene in the last one, all scenes at once */
+
+enum { SCENES = 4096, USED = 512, SECTOR = 4096 };
+
+static const uint32_t two_scenes[] = {0, 9, 9}, last_scene[] = {SCENES - 1};
+static const uint8_t two_by_page[] = {
+    0x5A, 0x46, 0x00, 0x01, 0x06,
+    0x5A, 0x46, 0x00, 0x06, 0x02, 0x00, 0x00, 0x00, 0xFE, 0xFD,
+    0x5A, 0x57, 0x00, 0x00, 0x05, 0xDC,
+};
+static const uint8_t two_by_word[] = {
+    0x5A, 0x46, 0x00, 0x01, 0x06,
+    0x5A, 0x46, 0x00, 0x06, 0xAD, 0x00, 0x00, 0x00, 0xFE, 0xFD,
+    0x5A, 0x57, 0x00, 0x00, 0x00, 0x07,
+    0x5A, 0x46, 0x00, 0x01, 0x04,
+};
+static const uint8_t last_by_page[] = {
+    0x5A, 0x46, 0x00, 0x01, 0x06,
+    0x5A, 0x46, 0x00, 0x05, 0x02, 0x00, 0xF1, 0xFF, 0x7F,
+    0x5A, 0x57, 0x00, 0x00, 0x05, 0xDC,
+};
+static const uint8_t last_by_word[] = {
+    0x5A, 0x46, 0x00, 0x01, 0x06,
+    0x5A, 0x46, 0x00, 0x06, 0xAD, 0x0F, 0xF1, 0xFE, 0xFF, 0x7F,
+    0x5A, 0x57, 0x00, 0x00, 0x00, 0x07,
+    0x5A, 0x46, 0x00, 0x01, 0x04,
+};
+
+/* erased, and not protected */
+static bool blank(uint8_t number)
+{
+    return erased(number) && (number == F25L05PA || unprotected());
+}
+
+static bool tells(zeradok_told told, uint32_t number, uint32_t value)
+{
+    return told.number == number && same_state(told.state, chip) && told.value == value && memcmp(array, expected, size) == 0;
+}
+
+static bool is_read(size_t sector, uint32_t scene)
+{
+    return tells(zeradok_book_is_read(chip, array, size, sector, scene), 0, 1);
+}
+
+static bool is_unread(size_t sector, uint32_t scene)
+{
+    return tells(zeradok_book_is_read(chip, array, size, sector, scene), 0, 0);
+}
+
+static bool counts(uint32_t value, size_t sector)
+{
+    return tells(zeradok_book_count(chip, array, size, sector), 0, value);
+}
+
+/* plans the marking in so much room */
+static bool marks(size_t sector, const uint32_t *scenes, size_t count, size_t room, zeradok_planned answer)
+{
+    fill_buffers();
+    return answers(zeradok_book_mark(chip, wp_high, array, size, sector, scenes, count, room ? buffer : NULL, room), answer);
+}
+
+static bool mark_refused(uint32_t number, size_t sector, const uint32_t *scenes, size_t count, size_t room)
+{
+    return marks(sector, scenes, count, room, (zeradok_planned){.number = number});
+}
+
+/* just enough room, after a byte too few; where the script is given the plan has it */
+static bool marks_by(const uint8_t *script, size_t sector, const uint32_t *scenes, size_t count, zeradok_planned answer)
+{
+    return mark_refused(10, sector, scenes, count, 0) && mark_refused(10, sector, scenes, count, answer.length - 1)
+        && marks(sector, scenes, count, answer.length, answer) && (script == NULL || memcmp(buffer, script, answer.length) == 0);
+}
+
+/* the plan of one word, or of one page with so many bytes */
+static zeradok_planned one_write(uint8_t number, uint32_t bytes, bool unprotects)
+{
+    zeradok_planned p = {.length = 19 + bytes, .frames = 2, .microseconds = 1500};
+    if (number == F25L008A) p = (zeradok_planned){.length = 26, .frames = 3, .microseconds = 7};
+    if (unprotects) p.length += 22, p.frames += 4;
+    return p;
+}
+
+/* runs the plan made last; then nothing is left to mark */
+static bool marked(size_t sector, const uint32_t *scenes, size_t count, zeradok_planned p)
+{
+    memset(shown, 0xFF, sizeof shown);
+    return runs_script(buffer, p.length, shown, zeradok_survey(buffer, p.length).output, p.frames, p.microseconds)
+        && marks(sector, scenes, count, 0, (zeradok_planned){0});
+}
+
+/* from an armed chip: no call but the run changes the state */
+static bool book_first(uint8_t number)
+{
+    const bool words = number == F25L008A;
+    const zeradok_planned p = one_write(number, 2, false);
+    return blank(number) && silent(words ? "50" : "06") && counts(0, 0) && is_unread(0, 0) && is_unread(0, 9)
+        && marks_by(words ? two_by_word : two_by_page, 0, two_scenes, 3, p)
+        && becomes(0, 0xFE) && becomes(1, 0xFD) && marked(0, two_scenes, 3, p)
+        && counts(2, 0) && is_read(0, 0) && is_unread(0, 1) && is_unread(0, 8) && is_read(0, 9) && is_unread(0, 10)
+        && counts(0, SECTOR) && is_unread(SECTOR, 0);
+}
+
+static bool book_last(uint8_t number)
+{
+    const zeradok_planned p = one_write(number, 1, false);
+    bool ready = blank(number);
+    const size_t sector = size - SECTOR;
+    return ready && marks_by(number == F25L008A ? last_by_word : last_by_page, sector, last_scene, 1, p)
+        && becomes(sector + USED - 1, 0x7F) && marked(sector, last_scene, 1, p)
+        && counts(1, sector) && is_read(sector, SCENES - 1) && is_unread(sector, SCENES - 2) && counts(0, 0);
+}
+
+/* scene 0 as often as there are scenes, then all of them: 512 bytes, by one run of words or by two pages */
+static bool book_whole(uint8_t number)
+{
+    static uint32_t scenes[2 * SCENES];
+    zeradok_planned p = {.length = 2 * 275, .frames = 4, .microseconds = 3000};
+    if (number == F25L008A) p = (zeradok_planned){.length = 26 + 255 * 13, .frames = 3 + 255, .microseconds = 256 * 7};
+    for (uint32_t scene = 0; scene < SCENES; scene++) scenes[SCENES + scene] = scene;
+    bool good = blank(number) && marks_by(NULL, SECTOR, scenes, 2 * SCENES, p);
+    memset(expected + SECTOR, 0x00, USED);
+    good = good && marked(SECTOR, scenes, 2 * SCENES, p) && counts(SCENES, SECTOR) && is_read(SECTOR, 0) && is_read(SECTOR, SCENES - 1);
+    scenes[2 * SCENES - 1] = SCENES;
+    return good && mark_refused(15, SECTOR, scenes, 2 * SCENES, sizeof buffer);
+}
+
+/* its 512 bytes are erased, and all around them is 00 */
+static bool book_alone(uint8_t number)
+{
+    const zeradok_planned p = one_write(number, 1, number == F25L008A);
+    bool good = fresh(number, 0x00);
+    memset(array + SECTOR, 0xFF, USED);
+    memset(expected + SECTOR, 0xFF, USED);
+    return good && counts(0, SECTOR) && is_unread(SECTOR, 0) && is_unread(SECTOR, SCENES - 1) && counts(SCENES, 0) && is_read(0, SCENES - 1)
+        && marks_by(NULL, SECTOR, last_scene, 1, p) && becomes(SECTOR + USED - 1, 0x7F) && marked(SECTOR, last_scene, 1, p) && counts(1, SECTOR);
+}
+
+/* an empty list, and scenes that are read already */
+static bool book_nothing_to_do(uint8_t number)
+{
+    const zeradok_planned nothing = {0};
+    return blank(number) && marks(0, NULL, 0, 0, nothing) && marks(size - SECTOR, two_scenes, 0, 64, nothing)
+        && fresh(number, 0x00) && marks(0, two_scenes, 3, 0, nothing) && marks(size - SECTOR, last_scene, 1, 64, nothing);
+}
+
+/* 15, asked for and marked */
+static bool no_such(size_t sector, uint32_t scene)
+{
+    return tells(zeradok_book_is_read(chip, array, size, sector, scene), 15, 0) && mark_refused(15, sector, &scene, 1, 64);
+}
+
+static bool no_such_sector(size_t sector)
+{
+    return no_such(sector, 0) && tells(zeradok_book_count(chip, array, size, sector), 15, 0) && mark_refused(15, sector, NULL, 0, 0);
+}
+
+/* 65,541 cut to 16 bits is scene 5; the last but one of the starts has its sector's end at 0, and the last cut to 32 bits is 0 */
+static bool book_outside(uint8_t number)
+{
+    const uint32_t listed[] = {0, 9, SCENES}, in_front[] = {SCENES, 0, 9};
+    return blank(number) && no_such(0, SCENES) && no_such(0, 65541) && no_such(0, 0x80000000) && no_such(0, UINT32_MAX)
+        && mark_refused(15, 0, listed, 3, 64) && mark_refused(15, 0, in_front, 3, 64)
+        && no_such_sector(1) && no_such_sector(USED) && no_such_sector(SECTOR - 1) && no_such_sector(size - 1) && no_such_sector(size - USED)
+        && no_such_sector(size) && no_such_sector(size + SECTOR) && no_such_sector(SIZE_MAX) && no_such_sector(SIZE_MAX - (SECTOR - 1))
+        && no_such_sector((size_t)1 << 32);
+}
+
+/* all three calls, with a scene and a sector that would be a 15 */
+static bool book_refused(uint32_t number)
+{
+    return tells(zeradok_book_is_read(chip, array, size, 1, SCENES), number, 0) && tells(zeradok_book_count(chip, array, size, 1), number, 0)
+        && mark_refused(number, 1, (const uint32_t[]){SCENES}, 1, 64);
+}
+
+static bool book_not_lent(uint8_t number)
+{
+    bool good = erased(number);
+    size--;
+    good = good && book_refused(2);
+    size++;
+    good = good && book_refused(15);
+    chip.bp = 8; /* not a state of the chip */
+    size--;
+    good = good && book_refused(1);
+    size++;
+    chip.bp = 0;
+    chip.chip = 7; /* no chip */
+    return good && book_refused(1);
+}
+
+/* byte 0 is 00: the questions are answered, and marking is a 7, of nothing too; 15 comes before it */
+static bool only_questions(void)
+{
+    return is_read(0, 7) && is_unread(0, 8) && counts(8, 0) && mark_refused(7, 0, two_scenes, 3, 64) && mark_refused(7, 0, NULL, 0, 0)
+        && no_such(0, SCENES) && no_such_sector(size);
+}
+
+static bool book_not_at_rest(void)
+{
+    bool busy = blank(F25L05PA) && silent("06") && becomes(0, 0x00) && silent("02 00 00 00 00") && only_questions();
+    bool rests = waited(1500) && marks(0, last_scene, 1, 64, one_write(F25L05PA, 1, false));
+    bool powered_down = silent("B9") && only_questions();
+    bool in_aai = blank(F25L008A) && silent("06") && becomes(0, 0x00) && silent("AD 00 00 00 00 FF") && waited(7) && only_questions();
+    return busy && rests && powered_down && in_aai && silent("04") && marks(0, last_scene, 1, 64, one_write(F25L008A, 1, false));
+}
+
+/* BPL 1 and all protected: with WP low it is a 9, unless nothing has to change; with WP high the plan unprotects and protects again */
+static bool book_protected(uint8_t number)
+{
+    const zeradok_planned p = one_write(number, 2, true);
+    bool good = erased(number) && silent(number == F25L008A ? "50" : "06") && silent("01 9C") && status("9C");
+    wp_high = false;
+    good = good && mark_refused(9, 0, two_scenes, 3, 64) && mark_refused(9, 0, two_scenes, 3, 0) && no_such(0, SCENES)
+        && marks(0, NULL, 0, 0, (zeradok_planned){0});
+    wp_high = true;
+    return good && marks_by(NULL, 0, two_scenes, 3, p) && becomes(0, 0xFE) && becomes(1, 0xFD) && marked(0, two_scenes, 3, p) && status("9C");
+}
+
+/* the power goes while both bytes are written, and of each only bit 0 is through: scene 0 is read, 9 isn't yet, and 8 isn't at all */
+static bool book_cut(uint8_t number)
+{
+    const uint8_t mask[] = {0x01, 0x01};
+    const zeradok_planned p = one_write(number, 2, false), again = one_write(number, 1, number == F25L008A);
+    return blank(number) && marks(0, two_scenes, 3, p.length, p) && silent("06") && becomes(0, 0xFE)
+        && zeradok_cut_frame(&chip, wp_high, array, size, buffer + 9, 6, output, 6, mask, 2) == 0
+        && is_read(0, 0) && is_unread(0, 1) && is_unread(0, 8) && is_unread(0, 9) && counts(1, 0)
+        && marks(0, two_scenes, 3, p.length + 22, again) && becomes(1, 0xFD) && marked(0, two_scenes, 3, again)
+        && is_read(0, 0) && is_unread(0, 1) && is_unread(0, 8) && is_read(0, 9) && counts(2, 0);
+}
+
 /* ---- refusals: nothing is changed */
 
 static bool refused(uint32_t number, size_t array_length, size_t frame_length, size_t output_length, size_t mask_length)
@@ -468,20 +709,42 @@ static const struct {
     {"records of a plan, one by one", records},
     {"power-up of both chips", power},
     {"a cut page", cut},
+    {"book: questions while busy, in power-down and in AAI, and refusal 7", book_not_at_rest},
     {"refusals 1 to 5 change nothing", refusals},
 };
 
+/* on each chip */
+static const struct {
+    const char *name;
+    bool (*holds)(uint8_t number);
+} books[] = {
+    {"book: scenes 0, 9 and 9", book_first},
+    {"book: scene 4,095 in the last sector", book_last},
+    {"book: every scene, by a list of 8,192", book_whole},
+    {"book: the bytes around it aren't looked at", book_alone},
+    {"book: an empty list, and scenes read already", book_nothing_to_do},
+    {"book: refusal 15, scenes and sectors that aren't there", book_outside},
+    {"book: refusals 1 and 2, before 15", book_not_lent},
+    {"book: refusal 9, and a plan that unprotects", book_protected},
+    {"book: a marking cut, and marked again", book_cut},
+};
+
+static unsigned passed, failed;
+
+static void tally(const char *name, bool holds)
+{
+    if (holds) {
+        passed++;
+    } else {
+        failed++;
+        printf("failed: %s\n", name);
+    }
+}
+
 int main(void)
 {
-    unsigned passed = 0, failed = 0;
-    for (size_t i = 0; i < sizeof samples / sizeof *samples; i++) {
-        if (samples[i].holds()) {
-            passed++;
-        } else {
-            failed++;
-            printf("failed: %s\n", samples[i].name);
-        }
-    }
+    for (size_t i = 0; i < sizeof samples / sizeof *samples; i++) tally(samples[i].name, samples[i].holds());
+    for (size_t i = 0; i < sizeof books / sizeof *books; i++) tally(books[i].name, books[i].holds(F25L008A) && books[i].holds(F25L05PA));
     printf("C samples: %u passed, %u failed\n", passed, failed);
     return failed != 0;
 }

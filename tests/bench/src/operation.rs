@@ -2,13 +2,15 @@
 
 use std::hint::black_box;
 
-use model::{Calls, Model, State, LONGEST_REGION};
+use model::{Calls, Model, State, Told, LONGEST_REGION, SCENES};
 use zeradok::Library;
 
 const SIZE_008A: usize = 0x10_0000;
 const SIZE_05PA: usize = 0x1_0000;
 /// Longer than any plan's script, and than the outputs of its frames.
 const ROOMY: usize = 27_000;
+/// Where the books start.
+const SECTOR: usize = 0x2000;
 
 pub enum Operation {
     /// `number` is what it has to be answered with.
@@ -32,6 +34,27 @@ pub enum Operation {
         script: Vec<u8>,
         output: Vec<u8>,
     },
+    /// `value` is what it has to be answered with.
+    IsRead {
+        state: State,
+        array: Vec<u8>,
+        sector: usize,
+        scene: u32,
+        value: u32,
+    },
+    Count {
+        state: State,
+        array: Vec<u8>,
+        sector: usize,
+        value: u32,
+    },
+    Mark {
+        state: State,
+        array: Vec<u8>,
+        sector: usize,
+        scenes: Vec<u32>,
+        buffer: Vec<u8>,
+    },
     Copy {
         from: Vec<u8>,
         to: Vec<u8>,
@@ -43,7 +66,7 @@ pub enum Operation {
 
 type Prepare = fn() -> Operation;
 
-pub const OPERATIONS: [(&str, Prepare); 13] = [
+pub const OPERATIONS: [(&str, Prepare); 19] = [
     ("05, status", || frame(writing(8), SIZE_008A, &[0x05, 0x00], 2)),
     ("05 while busy", || {
         let state = State { left: 1_000, ..writing(8) };
@@ -63,6 +86,23 @@ pub const OPERATIONS: [(&str, Prepare); 13] = [
     ("run that plan (008A)", || run(worst_plan_008a())),
     ("run that plan (05PA)", || run(worst_plan_05pa())),
     ("run 1,000 status reads", status_reads),
+    ("a scene asked for", || Operation::IsRead {
+        state: writing(8),
+        array: book(),
+        sector: SECTOR,
+        scene: 1_234,
+        value: 0,
+    }),
+    ("the scenes counted", || Operation::Count {
+        state: writing(8),
+        array: book(),
+        sector: SECTOR,
+        value: 8,
+    }),
+    ("mark 8 scenes (008A)", || mark(8, SIZE_008A, scattered())),
+    ("mark 8 scenes (05PA)", || mark(5, SIZE_05PA, scattered())),
+    ("mark all scenes (008A)", || mark(8, SIZE_008A, (0..SCENES).collect())),
+    ("mark all scenes (05PA)", || mark(5, SIZE_05PA, (0..SCENES).collect())),
 ];
 
 /// What no frame that shows or erases as much can cost less than: the C library does it, and
@@ -119,6 +159,31 @@ fn worst_plan_05pa() -> Operation {
     }
 }
 
+/// Eight scenes, far from each other.
+fn scattered() -> Vec<u32> {
+    (0..8).map(|number| 512 * number + 37 * number + 5).collect()
+}
+
+/// An 008A with a book in which these are read.
+fn book() -> Vec<u8> {
+    let mut array = vec![0xFF; SIZE_008A];
+    for scene in scattered() {
+        array[SECTOR + scene as usize / 8] &= !(1 << (scene % 8));
+    }
+    array
+}
+
+/// In an erased book; all is protected.
+fn mark(chip: u8, size: usize, scenes: Vec<u32>) -> Operation {
+    Operation::Mark {
+        state: State { chip, bp: 7, ..State::default() },
+        array: vec![0xFF; size],
+        sector: SECTOR,
+        scenes,
+        buffer: vec![0; ROOMY],
+    }
+}
+
 /// Running what a plan gives. Programming what is programmed already costs no less.
 fn run(plan: Operation) -> Operation {
     let Operation::Plan { state, array, start, wanted, mut buffer } = plan else {
@@ -147,11 +212,14 @@ fn status_reads() -> Operation {
     }
 }
 
-/// Somebody to be measured: frames go to a chip held in the subject's own form, so that no
-/// conversion is measured with them.
+/// Somebody to be measured: frames and questions go to a chip held in the subject's own form, so
+/// that no conversion is measured with them.
 pub trait Subject: Calls {
     type Chip: From<State> + Copy;
     fn send(chip: &mut Self::Chip, array: &mut [u8], frame: &[u8], output: &mut [u8]) -> u32;
+    /// The number and the value; so the next.
+    fn is_read(chip: Self::Chip, array: &[u8], sector: usize, scene: u32) -> (u32, u32);
+    fn count(chip: Self::Chip, array: &[u8], sector: usize) -> (u32, u32);
 }
 
 impl Subject for Library {
@@ -160,6 +228,14 @@ impl Subject for Library {
     fn send(chip: &mut Self::Chip, array: &mut [u8], frame: &[u8], output: &mut [u8]) -> u32 {
         chip.frame(black_box(true), array, frame, output)
     }
+
+    fn is_read(chip: Self::Chip, array: &[u8], sector: usize, scene: u32) -> (u32, u32) {
+        chip.book_is_read(array, sector, scene)
+    }
+
+    fn count(chip: Self::Chip, array: &[u8], sector: usize) -> (u32, u32) {
+        chip.book_count(array, sector)
+    }
 }
 
 impl Subject for Model {
@@ -167,6 +243,16 @@ impl Subject for Model {
 
     fn send(chip: &mut Self::Chip, array: &mut [u8], frame: &[u8], output: &mut [u8]) -> u32 {
         <Model>::frame(chip, black_box(true), array, frame, output)
+    }
+
+    fn is_read(chip: Self::Chip, array: &[u8], sector: usize, scene: u32) -> (u32, u32) {
+        let Told { number, value, .. } = <Model>::book_is_read(chip, array, sector, scene);
+        (number, value)
+    }
+
+    fn count(chip: Self::Chip, array: &[u8], sector: usize) -> (u32, u32) {
+        let Told { number, value, .. } = <Model>::book_count(chip, array, sector);
+        (number, value)
     }
 }
 
@@ -197,6 +283,30 @@ impl Operation {
                     let (array, output) = (black_box(&mut array[..]), black_box(&mut output[..]));
                     let ran = S::run(black_box(*state), true, array, black_box(script), output);
                     assert_eq!(ran.number, 0);
+                }
+            }
+            Operation::IsRead { state, array, sector, scene, value } => {
+                let chip = S::Chip::from(*state);
+                for _ in 0..times {
+                    let (array, scene) = (black_box(&array[..]), black_box(*scene));
+                    let told = S::is_read(black_box(chip), array, black_box(*sector), scene);
+                    assert_eq!(told, (0, *value));
+                }
+            }
+            Operation::Count { state, array, sector, value } => {
+                let chip = S::Chip::from(*state);
+                for _ in 0..times {
+                    let array = black_box(&array[..]);
+                    let told = S::count(black_box(chip), array, black_box(*sector));
+                    assert_eq!(told, (0, *value));
+                }
+            }
+            Operation::Mark { state, array, sector, scenes, buffer } => {
+                for _ in 0..times {
+                    let (array, scenes) = (black_box(&array[..]), black_box(&scenes[..]));
+                    let (state, buffer) = (black_box(*state), black_box(&mut buffer[..]));
+                    let planned = S::book_mark(state, true, array, *sector, scenes, buffer);
+                    assert_eq!(planned.number, 0);
                 }
             }
             Operation::Copy { from, to } => {

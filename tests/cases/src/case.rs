@@ -3,7 +3,7 @@
 use std::borrow::Cow;
 use std::ops::{Range, RangeInclusive};
 
-use model::{kind, Answer, Calls, Model, Planned, Ran, Record, State, Surveyed};
+use model::{kind, Answer, Calls, Model, Planned, Ran, Record, State, Surveyed, Told, BOOK};
 
 use crate::size;
 
@@ -19,6 +19,9 @@ pub enum Case {
     Run { on: On, script: Vec<u8>, output: usize },
     Survey { script: Vec<u8> },
     Read { script: Vec<u8>, offset: usize },
+    BookIsRead { on: On, sector: usize, scene: u32 },
+    BookCount { on: On, sector: usize },
+    BookMark { on: On, sector: usize, scenes: Vec<u32>, room: usize },
 }
 
 /// The refusals that say what is wrong with a record.
@@ -50,6 +53,7 @@ pub enum Outcome {
     Ran(Ran),
     Surveyed(Surveyed),
     Record(Record),
+    Told(Told),
 }
 
 impl On {
@@ -89,6 +93,7 @@ impl Outcome {
             Outcome::Ran(ran) => ran.number,
             Outcome::Surveyed(surveyed) => surveyed.number,
             Outcome::Record(record) => record.number,
+            Outcome::Told(told) => told.number,
         }
     }
 
@@ -116,6 +121,9 @@ impl Case {
             Case::Run { .. } => "run",
             Case::Survey { .. } => "survey",
             Case::Read { .. } => "read",
+            Case::BookIsRead { .. } => "book_is_read",
+            Case::BookCount { .. } => "book_count",
+            Case::BookMark { .. } => "book_mark",
         }
     }
 
@@ -125,7 +133,20 @@ impl Case {
             Case::Frame { on, .. }
             | Case::Cut { on, .. }
             | Case::Plan { on, .. }
-            | Case::Run { on, .. } => Some(on),
+            | Case::Run { on, .. }
+            | Case::BookIsRead { on, .. }
+            | Case::BookCount { on, .. }
+            | Case::BookMark { on, .. } => Some(on),
+            _ => None,
+        }
+    }
+
+    /// The sector and the scenes, if it is about a book.
+    pub fn book(&self) -> Option<(usize, &[u32])> {
+        match self {
+            Case::BookIsRead { sector, scene, .. } => Some((*sector, std::slice::from_ref(scene))),
+            Case::BookCount { sector, .. } => Some((*sector, &[])),
+            Case::BookMark { sector, scenes, .. } => Some((*sector, scenes)),
             _ => None,
         }
     }
@@ -136,7 +157,7 @@ impl Case {
             Case::Frame { output, .. } | Case::Cut { output, .. } | Case::Run { output, .. } => {
                 *output
             }
-            Case::Plan { room, .. } => *room,
+            Case::Plan { room, .. } | Case::BookMark { room, .. } => *room,
             _ => 0,
         }
     }
@@ -165,6 +186,15 @@ impl Case {
             }
             Case::Survey { script } => Outcome::Surveyed(C::survey(script)),
             Case::Read { script, offset } => Outcome::Record(C::read(script, *offset)),
+            Case::BookIsRead { on, sector, scene } => {
+                Outcome::Told(C::book_is_read(on.state, array, *sector, *scene))
+            }
+            Case::BookCount { on, sector } => {
+                Outcome::Told(C::book_count(on.state, array, *sector))
+            }
+            Case::BookMark { on, sector, scenes, .. } => {
+                Outcome::Planned(C::book_mark(on.state, on.wp_high, array, *sector, scenes, buffer))
+            }
         }
     }
 
@@ -192,6 +222,12 @@ impl Case {
                     windows.extend(footprint(&on.state, frame));
                     at = record.next;
                 }
+            }
+            Case::BookIsRead { on, sector, .. }
+            | Case::BookCount { on, sector }
+            | Case::BookMark { on, sector, .. } => {
+                let start = (*sector).min(size(on.state.chip));
+                windows.push(start..(start + BOOK).min(size(on.state.chip)));
             }
             _ => {}
         }

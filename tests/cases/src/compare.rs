@@ -12,6 +12,9 @@ use crate::Rng;
 /// The arrays are compared whole after this many cases; near each case's windows always.
 const WHOLE_EVERY: usize = 128;
 
+/// Somebody's call of a case.
+type Run = fn(&Case, &mut [u8], &mut [u8]) -> Outcome;
+
 /// A case in which the other side answered otherwise, or was found to have changed what it must
 /// not.
 pub struct Difference {
@@ -26,16 +29,17 @@ pub struct Difference {
 pub fn explore<R: Calls>(
     seed: u64,
     cases: usize,
-    note: impl FnMut(&Item, &Outcome, &[u8]),
+    mut note: impl FnMut(&Item, &Outcome, &[u8]),
 ) -> Result<(), Difference> {
-    go::<R>(seed, Sweep::length() + cases, usize::MAX, note)
+    go(Case::run::<R>, seed, Sweep::length() + cases, usize::MAX, &mut note)
 }
 
 impl Difference {
     /// The same, looked at closely: some earlier case may have changed the array far away.
     pub fn traced<R: Calls>(self) -> Self {
         let closely_from = self.index.saturating_sub(WHOLE_EVERY);
-        let again = go::<R>(self.seed, self.index + 1, closely_from, |_, _, _| ());
+        let total = self.index + 1;
+        let again = go(Case::run::<R>, self.seed, total, closely_from, &mut |_, _, _| ());
         again.err().unwrap_or(self)
     }
 
@@ -45,7 +49,7 @@ impl Difference {
         for index in 0..self.index {
             let item = comparison.generator.next(&mut comparison.board);
             comparison
-                .compare::<Model>(&item.case, index)
+                .compare(Case::run::<Model>, &item.case, index)
                 .expect("the right model agrees with itself");
         }
         let item = comparison.generator.next(&mut comparison.board);
@@ -54,17 +58,18 @@ impl Difference {
 }
 
 /// Compares whole arrays now and then, and from case `closely_from` on after each case.
-fn go<R: Calls>(
+fn go(
+    other: Run,
     seed: u64,
     total: usize,
     closely_from: usize,
-    mut note: impl FnMut(&Item, &Outcome, &[u8]),
+    note: &mut dyn FnMut(&Item, &Outcome, &[u8]),
 ) -> Result<(), Difference> {
     let mut comparison = Comparison::new(seed);
     for index in 0..total {
         let item = comparison.generator.next(&mut comparison.board);
         let difference = |what| Difference { seed, index, call: item.case.call(), what };
-        let outcome = comparison.compare::<R>(&item.case, index).map_err(difference)?;
+        let outcome = comparison.compare(other, &item.case, index).map_err(difference)?;
         note(&item, &outcome, comparison.buffer(&item.case));
         if index % WHOLE_EVERY == 0 || index >= closely_from || index + 1 == total {
             if let Some((chip, at)) = comparison.board.difference() {
@@ -93,7 +98,7 @@ impl Comparison {
     }
 
     /// Makes the call on both sides; what differs, if anything does.
-    fn compare<R: Calls>(&mut self, case: &Case, index: usize) -> Result<Outcome, String> {
+    fn compare(&mut self, other: Run, case: &Case, index: usize) -> Result<Outcome, String> {
         let length = case.buffer();
         let untouched = 0xA5 ^ index as u8;
         for buffer in &mut self.buffers {
@@ -103,15 +108,15 @@ impl Comparison {
         let [left, right] = &mut self.buffers;
         let (left_lent, right_lent) =
             (&mut left[MARGIN..][..length], &mut right[MARGIN..][..length]);
-        let (outcome, other) = match case.on() {
+        let (outcome, other_outcome) = match case.on() {
             Some(on) => {
                 let (left_array, right_array) = self.board.of(on.array_of).lent(on.array);
-                (case.run::<Model>(left_array, left_lent), case.run::<R>(right_array, right_lent))
+                (case.run::<Model>(left_array, left_lent), other(case, right_array, right_lent))
             }
-            None => (case.run::<Model>(&mut [], left_lent), case.run::<R>(&mut [], right_lent)),
+            None => (case.run::<Model>(&mut [], left_lent), other(case, &mut [], right_lent)),
         };
-        if outcome != other {
-            return Err(format!("answer {other:?}\nright  {outcome:?}"));
+        if outcome != other_outcome {
+            return Err(format!("answer {other_outcome:?}\nright  {outcome:?}"));
         }
         if left != right {
             let at = left.iter().zip(&*right).position(|(l, r)| l != r).unwrap_or(0);

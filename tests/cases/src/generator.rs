@@ -7,18 +7,18 @@ use crate::case::{Case, Mask, On, Outcome};
 use crate::frames::{self, FATES};
 use crate::spoil::{self, Planted};
 use crate::sweep::Sweep;
-use crate::{first_protected, malform, plans, scripts, size, states, Rng, CHIPS, F25L008A};
+use crate::{book, first_protected, malform, plans, scripts, size, states, Rng, CHIPS, F25L008A};
 
 /// A case and the refusals that were planted in it.
 pub struct Item {
     pub case: Case,
     pub planted: Planted,
-    /// Whether it is a plan given one byte less room than its script has.
+    /// Whether it is a plan or a mark given one byte less room than its script has.
     pub one_short: bool,
 }
 
 impl Item {
-    fn new(case: Case, planted: Planted) -> Self {
+    pub fn new(case: Case, planted: Planted) -> Self {
         Self { case, planted, one_short: false }
     }
 }
@@ -55,7 +55,7 @@ impl Generator {
             return unspoilt(case);
         }
         let chip = self.rng.pick(&CHIPS);
-        match self.rng.below(100) {
+        match self.rng.below(120) {
             0 => unspoilt(Case::New { chip: self.rng.byte() }),
             1 | 2 => self.power_up(chip),
             3..=8 => self.wait(chip),
@@ -64,7 +64,9 @@ impl Generator {
             19..=30 => self.run(chip),
             31..=48 => self.plan(chip, board),
             49..=65 => self.frame(chip, board, true),
-            _ => self.frame(chip, board, false),
+            66..=99 => self.frame(chip, board, false),
+            100..=110 => self.question(chip, board),
+            _ => book::mark(&mut self.rng, chip, board),
         }
     }
 
@@ -77,16 +79,23 @@ impl Generator {
                 self.walk_on(answer.state)
             }
             (Case::Plan { on, .. }, Outcome::Planned(planned)) if planned.number == 0 => {
-                let script = buffer[..planned.length as usize].to_vec();
-                if self.rng.coin() {
-                    self.follow_up = Some(Case::Run {
-                        output: scripts::frame_bytes(&script),
-                        on: on.clone(),
-                        script,
-                    });
-                }
+                self.run_one_in(2, on, &buffer[..planned.length as usize]);
+            }
+            (Case::BookMark { on, .. }, Outcome::Planned(planned)) if planned.number == 0 => {
+                self.run_one_in(4, on, &buffer[..planned.length as usize]);
             }
             _ => {}
+        }
+    }
+
+    /// Has one in so many plans run next.
+    fn run_one_in(&mut self, many: usize, on: &On, script: &[u8]) {
+        if self.rng.one_in(many) {
+            self.follow_up = Some(Case::Run {
+                on: on.clone(),
+                script: script.to_vec(),
+                output: scripts::frame_bytes(script),
+            });
         }
     }
 
@@ -208,7 +217,7 @@ impl Generator {
         if spoils {
             if rng.one_in(2) && exact > 0 {
                 planted.plant(10);
-                room = if rng.coin() { exact - 1 } else { rng.below(exact) };
+                room = spoil::room(rng, exact);
             }
             if rng.one_in(3) && plans::raise(rng, old, &mut wanted) {
                 planted.plant(8);
@@ -256,6 +265,11 @@ impl Generator {
         }
         let case = Case::Run { on, script, output };
         Item::new(case, planted)
+    }
+
+    fn question(&mut self, chip: u8, board: &mut Board) -> Item {
+        let walk = self.walk[usize::from(chip != F25L008A)];
+        book::question(&mut self.rng, chip, walk, board)
     }
 
     fn survey(&mut self, chip: u8) -> Item {

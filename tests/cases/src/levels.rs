@@ -1,6 +1,6 @@
 //! What each level of protection, BP2 BP1 BP0, protects, told by sector erases (20).
 
-use model::{Answer, Calls, State};
+use model::{Answer, Calls, State, Told};
 
 use crate::chip::Chip;
 use crate::{first_protected, size, CHIPS};
@@ -65,6 +65,9 @@ fn is_refused<C: Calls>(chip: u8, bp: u8) -> bool {
     let cut_frame = C::cut_frame(&mut cut, true, &mut chip.array, &erase, &mut output, &[]);
     let planned = C::plan(given, true, &chip.array, 0, &[0], &mut buffer);
     let ran = C::run(given, true, &mut chip.array, &[], &mut []);
+    let marked = C::book_mark(given, true, &chip.array, 0, &[0], &mut buffer);
+    let questions =
+        [C::book_is_read(given, &chip.array, 0, 0), C::book_count(given, &chip.array, 0)];
     let answers = [
         C::power_up(given),
         C::wait(given, 1),
@@ -72,8 +75,10 @@ fn is_refused<C: Calls>(chip: u8, bp: u8) -> bool {
         Answer { number: cut_frame, state: cut },
         Answer { number: planned.number, state: planned.state },
         Answer { number: ran.number, state: ran.state },
+        Answer { number: marked.number, state: marked.state },
     ];
-    answers == [Answer { number: 1, state: given }; 6]
+    answers == [Answer { number: 1, state: given }; 7]
+        && questions == [Told { number: 1, state: given, value: 0 }; 2]
         && (output, buffer) == ([0xA5; 4], [0xA5; 64])
         && chip.array.iter().all(|byte| *byte == 0xFF)
 }

@@ -1,5 +1,6 @@
-//! Random and edge cases for any two who answer the nine calls, compared with each other.
+//! Random and edge cases for any two who answer the twelve calls, compared with each other.
 
+pub mod book;
 pub mod counts;
 pub mod literal;
 pub mod plans;
@@ -39,7 +40,7 @@ pub const CHIPS: [u8; 2] = [F25L008A, F25L05PA];
 pub const BORDERS: [usize; 5] = [0x08_0000, 0x0C_0000, 0x0E_0000, 0x0F_0000, 0x10_0000];
 
 /// The names of the cases written out, with their answers, that fail: 01's samples, the levels of
-/// protection, bad records, surveys and the plans of the worst case.
+/// protection, bad records, surveys, the plans of the worst case and the flag book.
 pub fn written_out<C: Calls>() -> Vec<String> {
     [
         samples::failing::<C>(),
@@ -47,6 +48,7 @@ pub fn written_out<C: Calls>() -> Vec<String> {
         bad_records::failing::<C>(),
         surveys::failing::<C>(),
         worst::failing::<C>(),
+        book::failing::<C>(),
     ]
     .concat()
 }

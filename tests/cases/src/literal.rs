@@ -61,12 +61,33 @@ fn write(case: &Case, board: &mut Board, to: &mut String) -> std::fmt::Result {
             writeln!(to, "let script = {};", bytes_text(script))?;
             writeln!(to, "Library::read(&script, {offset});")
         }
+        Case::BookIsRead { on, sector, scene } => {
+            write_chip(case, on, board, to)?;
+            writeln!(to, "Library::book_is_read(state, &array, {sector:#X}, {scene});")
+        }
+        Case::BookCount { on, sector } => {
+            write_chip(case, on, board, to)?;
+            writeln!(to, "Library::book_count(state, &array, {sector:#X});")
+        }
+        Case::BookMark { on, sector, scenes, room } => {
+            write_on(case, on, board, to)?;
+            writeln!(to, "let scenes: [u32; {}] = {scenes:?};", scenes.len())?;
+            writeln!(to, "let mut buffer = vec![0x5A_u8; {room}];")?;
+            writeln!(
+                to,
+                "Library::book_mark(state, wp_high, &array, {sector:#X}, &scenes, &mut buffer);"
+            )
+        }
     }
 }
 
 fn write_on(case: &Case, on: &On, board: &mut Board, to: &mut String) -> std::fmt::Result {
-    writeln!(to, "{}", state_text(&on.state))?;
     writeln!(to, "let wp_high = {};", on.wp_high)?;
+    write_chip(case, on, board, to)
+}
+
+fn write_chip(case: &Case, on: &On, board: &mut Board, to: &mut String) -> std::fmt::Result {
+    writeln!(to, "{}", state_text(&on.state))?;
     writeln!(to, "let mut array = vec![0xFF_u8; {:#X}];", on.array)?;
     let array = board.of(on.array_of).array();
     for window in case.windows() {

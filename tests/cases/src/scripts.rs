@@ -105,7 +105,7 @@ fn phrase(rng: &mut Rng, chip: u8, script: &mut Vec<u8>) {
 
 /// A 06, now and then forgotten.
 fn enable(rng: &mut Rng, script: &mut Vec<u8>) {
-    if !rng.one_in(8) {
+    if !rng.one_in(5) {
         put_frame(script, &[0x06]);
     }
 }

@@ -15,7 +15,7 @@ impl Planted {
     }
 
     pub fn numbers(self) -> impl Iterator<Item = u32> {
-        (1..=14).filter(move |number| self.0 >> number & 1 == 1)
+        (1..=15).filter(move |number| self.0 >> number & 1 == 1)
     }
 }
 
@@ -53,6 +53,15 @@ pub fn region(rng: &mut Rng, chip: u8, start: &mut usize, wanted: &mut Vec<u8>) 
             *start = size(chip);
             wanted.resize(1, 0xFF);
         }
+    }
+}
+
+/// Less room than a script of this length takes, which is above 0.
+pub fn room(rng: &mut Rng, length: usize) -> usize {
+    if rng.coin() {
+        length - 1
+    } else {
+        rng.below(length)
     }
 }
 

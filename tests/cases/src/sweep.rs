@@ -1,7 +1,9 @@
-//! The cases that are gone through one by one: chip numbers, scripts, states and short frames.
+//! The cases that are gone through one by one: chip numbers, books, scripts, states and short
+//! frames.
 
 use model::State;
 
+use crate::book::BookSweep;
 use crate::case::{Case, On};
 use crate::script_sweep::ScriptSweep;
 use crate::{frames, size, Rng, CHIPS, F25L008A, F25L05PA};
@@ -40,6 +42,7 @@ const LENGTHS: usize = 8;
 
 pub struct Sweep {
     at: usize,
+    books: BookSweep,
     scripts: ScriptSweep,
     /// States, and whether WP is high, in which each short frame is tried.
     tried: Vec<(State, bool)>,
@@ -52,13 +55,14 @@ impl Sweep {
             .flat_map(tried)
             .flat_map(|state| [(state, false), (state, true)])
             .collect();
-        Self { at: 0, scripts: ScriptSweep::new(), tried }
+        Self { at: 0, books: BookSweep::new(), scripts: ScriptSweep::new(), tried }
     }
 
     /// How many cases it has.
     pub fn length() -> usize {
-        let Self { scripts, tried, .. } = Self::new();
-        CHIP_NUMBERS + scripts.length() + STATES + OPCODES * LENGTHS * tried.len()
+        let Self { books, scripts, tried, .. } = Self::new();
+        let frames = OPCODES * LENGTHS * tried.len();
+        CHIP_NUMBERS + books.length() + scripts.length() + STATES + frames
     }
 
     pub fn next(&mut self, rng: &mut Rng) -> Option<Case> {
@@ -68,6 +72,10 @@ impl Sweep {
             return Some(Case::New { chip: at as u8 });
         }
         at -= CHIP_NUMBERS;
+        if at < self.books.length() {
+            return Some(self.books.case(at));
+        }
+        at -= self.books.length();
         if at < self.scripts.length() {
             return Some(self.scripts.case(at, rng));
         }

@@ -2,6 +2,7 @@
 
 use std::process::ExitCode;
 
+use cases::book::Books;
 use cases::counts::{goals, Counts};
 use cases::unread::{Script, Unread};
 use cases::worst::{Amounts, Planner};
@@ -9,10 +10,12 @@ use cases::{explore, written_out, Item, Outcome, CHIPS};
 use zeradok::{Library, WORST_BYTES, WORST_FRAMES, WORST_MICROSECONDS};
 
 const SEED: u64 = 1;
-const CASES: usize = 400_000;
+const CASES: usize = 480_000;
 /// How many plans have to be accepted on each chip, and how many may be asked for.
 const PLANS: usize = 100_000;
 const MOST_ASKED: usize = 2 * PLANS;
+/// How many books are marked on each chip.
+const MARKS: usize = 2_000;
 
 // The binding has the greatest of both chips' limits.
 const _: () = {
@@ -48,7 +51,8 @@ fn main() -> ExitCode {
     }
     let unread = nothing_turns_unread(&scripts, &mut counts);
     let limited = CHIPS.map(|chip| keeps_limits(chip, seed, &mut counts)) == [true; 2];
-    if all_met(&counts) && unread && limited && failing.is_empty() {
+    let promised = CHIPS.map(|chip| keeps_promises(chip, seed, &mut counts)) == [true; 2];
+    if all_met(&counts) && unread && limited && promised && failing.is_empty() {
         ExitCode::SUCCESS
     } else {
         ExitCode::FAILURE
@@ -73,7 +77,7 @@ fn nothing_turns_unread(scripts: &[Script], counts: &mut Counts) -> bool {
 /// Whether the library's plans keep A8's limits; prints the most that they came to, or the first
 /// that doesn't.
 fn keeps_limits(chip: u8, seed: u64, counts: &mut Counts) -> bool {
-    let mut planner = Planner::<Library>::new(chip, seed);
+    let mut planner = Planner::new::<Library>(chip, seed);
     let mut greatest = Amounts::default();
     let mut accepted = 0;
     for _ in 0..MOST_ASKED {
@@ -92,6 +96,20 @@ fn keeps_limits(chip: u8, seed: u64, counts: &mut Counts) -> bool {
     }
     println!("chip {chip}: only {accepted} plans accepted of {MOST_ASKED}");
     false
+}
+
+/// Whether the library's marks keep what A2 promises; prints the first that doesn't.
+fn keeps_promises(chip: u8, seed: u64, counts: &mut Counts) -> bool {
+    let mut books = Books::new::<Library, Library>(chip, seed);
+    for _ in 0..MARKS {
+        let (mark, found) = books.mark();
+        if !found.broken.is_empty() {
+            println!("chip {chip}: {found}\n{}", books.text(&mark));
+            return false;
+        }
+        counts.note_promised(chip, &found.tested);
+    }
+    true
 }
 
 /// Prints what was met, and tells whether all was met often enough.

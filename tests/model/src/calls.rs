@@ -51,6 +51,14 @@ pub struct Surveyed {
     pub output: usize,
 }
 
+/// A question's answer: 1 or 0, or how many; 0 with a refusal.
+#[derive(Clone, Copy, Debug, PartialEq, Eq)]
+pub struct Told {
+    pub number: u32,
+    pub state: State,
+    pub value: u32,
+}
+
 /// One record of a script; `kind` is one of the constants of [`kind`].
 #[derive(Clone, Copy, Debug, Default, PartialEq, Eq)]
 pub struct Record {
@@ -70,7 +78,7 @@ pub mod kind {
     pub const END: u32 = 3;
 }
 
-/// Somebody who answers the nine calls: this model, a wrong copy of it, or the library.
+/// Somebody who answers the twelve calls: this model, a wrong copy of it, or the library.
 pub trait Calls {
     fn new_chip(chip: u8) -> Answer;
     fn power_up(state: State) -> Answer;
@@ -101,6 +109,16 @@ pub trait Calls {
     fn run(state: State, wp_high: bool, array: &mut [u8], script: &[u8], output: &mut [u8]) -> Ran;
     fn survey(script: &[u8]) -> Surveyed;
     fn read(script: &[u8], offset: usize) -> Record;
+    fn book_is_read(state: State, array: &[u8], sector: usize, scene: u32) -> Told;
+    fn book_count(state: State, array: &[u8], sector: usize) -> Told;
+    fn book_mark(
+        state: State,
+        wp_high: bool,
+        array: &[u8],
+        sector: usize,
+        scenes: &[u32],
+        buffer: &mut [u8],
+    ) -> Planned;
 }
 
 impl Answer {
@@ -116,6 +134,16 @@ impl Answer {
 impl Planned {
     pub(crate) fn refused(number: u32, state: State) -> Self {
         Self { number, state, length: 0, frames: 0, microseconds: 0 }
+    }
+}
+
+impl Told {
+    /// A value, or the refusal instead of it.
+    pub(crate) fn of(state: State, value: Result<u32, u32>) -> Self {
+        match value {
+            Ok(value) => Self { number: 0, state, value },
+            Err(number) => Self { number, state, value: 0 },
+        }
     }
 }
 

@@ -106,6 +106,48 @@ pub enum Fault {
     StretchesSentApart,
     /// Steps 1 and 4 stand around every page.
     PagesUnprotectedApart,
+
+    // Of the flag book (02, A2).
+    /// A scene's bit is counted from the top.
+    SceneBitFromTop,
+    /// The questions take 1 as read.
+    OneIsRead,
+    /// A mark turns the scene's bit over, so that a repeat takes it back.
+    RepeatToggles,
+    /// 4,096 is taken as a scene, the first one.
+    Scene4096Taken,
+    /// 4,095 is refused.
+    Scene4095Refused,
+    /// A scene's number is cut to 16 bits.
+    SceneCutTo16Bits,
+    /// Any multiple of 256 is taken as a sector's start.
+    PageTakenAsSector,
+    /// The chip's size is taken as a sector's start; what then comes is 6.
+    SizeTakenAsSector,
+    /// A sector's start is taken modulo the chip's size, as a frame's address is.
+    SectorModuloSize,
+    /// A mark's 7 comes before 15.
+    BookCheckedAfterRest,
+    /// 15 comes before 2.
+    BookCheckedBeforeArray,
+    /// A question is refused while the chip is busy.
+    BusyQuestionRefused,
+    /// The scenes of the last byte aren't counted.
+    LastByteNotCounted,
+    /// All bytes of the sector are counted.
+    WholeSectorCounted,
+    /// The last scene of a list is dropped.
+    LastSceneDropped,
+    /// A list is cut off at 4,096 entries.
+    LongListCut,
+    /// The bytes that a mark starts from are those at address 0.
+    BookFromAddress0,
+    /// A mark is planned for address 0.
+    MarkedAtAddress0,
+    /// A mark of nothing new is the empty script, at rest or not.
+    NothingNewNotPlanned,
+    /// A mark that is refused clears its buffer.
+    RefusedMarkWrites,
 }
 
 impl Fault {

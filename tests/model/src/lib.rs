@@ -3,6 +3,7 @@
 //! `Model` is the right model; `Model<{ Fault::… as u8 }>` is a copy that is wrong in one way.
 #![no_std]
 
+mod book;
 mod calls;
 mod chip;
 mod effect;
@@ -17,8 +18,9 @@ mod script;
 mod state;
 mod words;
 
-pub use calls::{kind, Answer, Calls, Planned, Ran, Record, State, Surveyed};
-pub use chip::{Chip, Kind};
+pub use book::{BOOK, SCENES};
+pub use calls::{kind, Answer, Calls, Planned, Ran, Record, State, Surveyed, Told};
+pub use chip::{Chip, Kind, SECTOR};
 pub use fault::Fault;
 pub use frame::{Reason, LONGEST_FRAME};
 pub use plan::LONGEST_REGION;
@@ -29,7 +31,7 @@ use state::refusal;
 
 const RIGHT: u8 = Fault::None as u8;
 
-/// The nine calls as this model answers them.
+/// The twelve calls as this model answers them.
 pub struct Model<const FAULT: u8 = RIGHT>;
 
 impl<const FAULT: u8> Calls for Model<FAULT> {
@@ -112,6 +114,32 @@ impl<const FAULT: u8> Calls for Model<FAULT> {
 
     fn read(script: &[u8], offset: usize) -> Record {
         reader::read::<FAULT>(script, offset)
+    }
+
+    fn book_is_read(state: State, array: &[u8], sector: usize, scene: u32) -> Told {
+        Told::of(state, book::is_read::<FAULT>(&state, array, sector, scene))
+    }
+
+    fn book_count(state: State, array: &[u8], sector: usize) -> Told {
+        Told::of(state, book::count::<FAULT>(&state, array, sector))
+    }
+
+    fn book_mark(
+        state: State,
+        wp_high: bool,
+        array: &[u8],
+        sector: usize,
+        scenes: &[u32],
+        buffer: &mut [u8],
+    ) -> Planned {
+        book::mark::<FAULT>(state, wp_high, array, sector, scenes, buffer).unwrap_or_else(
+            |number| {
+                if Fault::RefusedMarkWrites.within(FAULT) {
+                    buffer.fill(0);
+                }
+                Planned::refused(number, state)
+            },
+        )
     }
 }
 

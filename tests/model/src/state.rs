@@ -4,7 +4,7 @@ use crate::chip::{Chip, SECTOR, WORD_TIME};
 use crate::fault::Fault;
 use crate::State;
 
-/// Refusal numbers (01, "Refusal numbers, in the order checked"; from 12 on 02, A1).
+/// Refusal numbers (01, "Refusal numbers, in the order checked"; from 12 on 02, A1, and 15 A2).
 pub mod refusal {
     pub const STATE: u32 = 1;
     pub const ARRAY_LENGTH: u32 = 2;
@@ -20,6 +20,7 @@ pub mod refusal {
     pub const UNKNOWN_MARK: u32 = 12;
     pub const RECORD_LENGTH: u32 = 13;
     pub const CUT_SHORT: u32 = 14;
+    pub const WRONG_BOOK: u32 = 15;
 }
 
 impl State {

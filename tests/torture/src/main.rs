@@ -8,11 +8,12 @@ use std::process::ExitCode;
 
 use cases::Rng;
 use model::{Calls, Fault, Model};
-use setting::Setting;
+use setting::{Kind, Setting};
 use tally::Tally;
 use trial::Trial;
 use zeradok::Library;
 
+const KINDS: [Kind; 2] = [Kind::Update, Kind::Mark];
 const SEED: u64 = 1;
 const PLANS: u64 = 5_000;
 /// How much more room the second plan gets (00, demand 3).
@@ -26,36 +27,49 @@ fn main() -> ExitCode {
         eprintln!("usage: torture [seed] [plans]");
         return ExitCode::FAILURE;
     };
-    let mut tally = Tally::default();
-    if let Err(what) = torture::<Library>(seed, plans, MORE_ROOM, &mut tally) {
-        println!("seed {seed}, {what}");
-        return ExitCode::FAILURE;
-    }
-    println!("{tally}");
-    let rare = tally.too_rare();
-    for what in &rare {
-        println!("too rare: {what}");
-    }
-    if rare.is_empty() && is_sharp(seed, plans) {
+    let endures = KINDS.map(|kind| endures(kind, seed, plans)) == [true; 2];
+    if endures && KINDS.map(|kind| is_sharp(kind, seed, plans)) == [true; 2] {
         ExitCode::SUCCESS
     } else {
         ExitCode::FAILURE
     }
 }
 
-/// Whether less room, and a copy of the model that stores bytes, come to grief.
-fn is_sharp(seed: u64, plans: u64) -> bool {
+/// Whether the library's plans come through all cuts, and these are enough of each sort.
+fn endures(kind: Kind, seed: u64, plans: u64) -> bool {
+    let mut tally = Tally::default();
+    if let Err(what) = torture::<Library>(kind, seed, plans, MORE_ROOM, &mut tally) {
+        println!("{kind:?}, seed {seed}, {what}");
+        return false;
+    }
+    println!("{kind:?}:\n{tally}");
+    let rare = tally.too_rare(kind);
+    for what in &rare {
+        println!("too rare: {what}");
+    }
+    rare.is_empty()
+}
+
+/// Whether less room, and a copy of the model that stores bytes or counts a scene's bit from the
+/// top, come to grief.
+fn is_sharp(kind: Kind, seed: u64, plans: u64) -> bool {
     type Storing = Model<{ Fault::ByteStored as u8 }>;
+    type FromTop = Model<{ Fault::SceneBitFromTop as u8 }>;
     let tally = &mut Tally::default();
-    let less_room = torture::<Library>(seed, plans, MORE_ROOM - 1, tally);
-    let stored = torture::<Storing>(seed, plans, MORE_ROOM, tally);
-    for (name, result) in [("with 21 bytes more", &less_room), ("bytes stored", &stored)] {
+    let less_room = torture::<Library>(kind, seed, plans, MORE_ROOM - 1, tally);
+    let (name, wrong) = match kind {
+        Kind::Update => ("bytes stored", torture::<Storing>(kind, seed, plans, MORE_ROOM, tally)),
+        Kind::Mark => {
+            ("bits from the top", torture::<FromTop>(kind, seed, plans, MORE_ROOM, tally))
+        }
+    };
+    for (name, result) in [("with 21 bytes more", &less_room), (name, &wrong)] {
         match result {
-            Ok(()) => println!("NOT TOLD APART: {name}"),
-            Err(what) => println!("fails, as it should, {name}: {}", first_line(what)),
+            Ok(()) => println!("NOT TOLD APART: {kind:?} {name}"),
+            Err(what) => println!("fails, as it should, {kind:?} {name}: {}", first_line(what)),
         }
     }
-    less_room.is_err_and(|what| what.contains("refusal 10")) && stored.is_err()
+    less_room.is_err_and(|what| what.contains("refusal 10")) && wrong.is_err()
 }
 
 fn first_line(text: &str) -> &str {
@@ -64,6 +78,7 @@ fn first_line(text: &str) -> &str {
 
 /// Runs the plans and cuts them; what went wrong, if anything did.
 fn torture<C: Calls>(
+    kind: Kind,
     seed: u64,
     plans: u64,
     more_room: usize,
@@ -74,7 +89,7 @@ fn torture<C: Calls>(
         let mut before = rng.bytes(cases::size(chip));
         let mut array = before.clone();
         for number in 0..plans {
-            let setting = Setting::new(&mut rng, chip, number, &mut before);
+            let setting = Setting::new(&mut rng, kind, chip, number, &mut before);
             array[setting.region()].copy_from_slice(&setting.old);
             Trial::<C>::new(&setting, &mut array, &before, more_room)
                 .go(&mut rng, tally)

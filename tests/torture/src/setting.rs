@@ -4,8 +4,16 @@ use std::fmt;
 use std::ops::Range;
 
 use cases::literal::{bytes_text, state_text};
-use cases::{first_protected, plans, states, Rng};
-use model::{State, LONGEST_REGION};
+use cases::{book, first_protected, plans, states, Rng};
+use model::{State, BOOK, LONGEST_REGION};
+
+/// Which call plans.
+#[derive(Clone, Copy, Debug, PartialEq, Eq)]
+pub enum Kind {
+    Update,
+    /// The marking of scenes in a book (02, A2).
+    Mark,
+}
 
 pub struct Setting {
     pub state: State,
@@ -13,12 +21,25 @@ pub struct Setting {
     pub start: usize,
     pub old: Vec<u8>,
     pub wanted: Vec<u8>,
+    /// The list that is marked, if the region is a book.
+    pub scenes: Option<Vec<u32>>,
 }
 
 impl Setting {
     /// A chip at rest and a wanted image for which a plan is accepted; the old bytes go into the
     /// array.
-    pub fn new(rng: &mut Rng, chip: u8, number: u64, array: &mut [u8]) -> Self {
+    pub fn new(rng: &mut Rng, kind: Kind, chip: u8, number: u64, array: &mut [u8]) -> Self {
+        let mut setting = match kind {
+            Kind::Update => Self::update(rng, chip, number, array),
+            Kind::Mark => Self::mark(rng, chip, number, array),
+        };
+        if setting.needs_step_1() && !setting.wp_high {
+            setting.state.bpl = false;
+        }
+        setting
+    }
+
+    fn update(rng: &mut Rng, chip: u8, number: u64, array: &mut [u8]) -> Self {
         let length = match number % 40 {
             0 => rng.between(1_000, LONGEST_REGION),
             1..=5 => rng.between(1, 300),
@@ -26,20 +47,23 @@ impl Setting {
             _ => rng.between(1, 24),
         };
         let start = plans::start(rng, chip, length);
-        let old = &mut array[start..][..length];
-        match rng.below(3) {
-            0 => old.fill(0xFF),
-            1 => rng.fill(old),
-            _ => old.iter_mut().for_each(|byte| *byte |= rng.byte()),
-        }
-        let old = old.to_vec();
+        let old = old(rng, &mut array[start..][..length]);
         let wanted = plans::wanted(rng, start, &old);
-        let mut setting =
-            Self { state: states::at_rest(rng, chip), wp_high: rng.coin(), start, old, wanted };
-        if setting.needs_step_1() && !setting.wp_high {
-            setting.state.bpl = false;
-        }
-        setting
+        let (state, wp_high) = (states::at_rest(rng, chip), rng.coin());
+        Self { state, wp_high, start, old, wanted, scenes: None }
+    }
+
+    /// Mostly short lists, now and then one of any sort.
+    fn mark(rng: &mut Rng, chip: u8, number: u64, array: &mut [u8]) -> Self {
+        let start = book::sector(rng, chip);
+        let old = old(rng, &mut array[start..][..BOOK]);
+        let scenes = match number % 20 {
+            0 => book::scenes(rng, &old),
+            _ => book::short_list(rng),
+        };
+        let wanted = book::marked(&old, &scenes);
+        let (state, wp_high) = (states::at_rest(rng, chip), rng.coin());
+        Self { state, wp_high, start, old, wanted, scenes: Some(scenes) }
     }
 
     pub fn region(&self) -> Range<usize> {
@@ -53,6 +77,16 @@ impl Setting {
     }
 }
 
+/// Erased, random or with more ones than before, in the array too.
+fn old(rng: &mut Rng, old: &mut [u8]) -> Vec<u8> {
+    match rng.below(3) {
+        0 => old.fill(0xFF),
+        1 => rng.fill(old),
+        _ => old.iter_mut().for_each(|byte| *byte |= rng.byte()),
+    }
+    old.to_vec()
+}
+
 /// As Rust text that can be pasted.
 impl fmt::Display for Setting {
     fn fmt(&self, to: &mut fmt::Formatter<'_>) -> fmt::Result {
@@ -60,6 +94,9 @@ impl fmt::Display for Setting {
         writeln!(to, "let wp_high = {};", self.wp_high)?;
         writeln!(to, "let start = {:#X};", self.start)?;
         writeln!(to, "let old = {};", bytes_text(&self.old))?;
-        write!(to, "let wanted = {};", bytes_text(&self.wanted))
+        match &self.scenes {
+            Some(scenes) => write!(to, "let scenes: [u32; {}] = {scenes:?};", scenes.len()),
+            None => write!(to, "let wanted = {};", bytes_text(&self.wanted)),
+        }
     }
 }

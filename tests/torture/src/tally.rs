@@ -5,7 +5,7 @@ use std::fmt;
 
 use cases::CHIPS;
 
-use crate::setting::Setting;
+use crate::setting::{Kind, Setting};
 
 #[derive(Clone, Copy, Debug, PartialEq, Eq, PartialOrd, Ord)]
 enum Met {
@@ -57,16 +57,37 @@ enum Sort {
     OddStart,
     OddEnd,
     LongPlan,
+    /// Scenes stand in the list more than once.
+    Repeats,
+    /// All scenes of the list are read already, or it is empty.
+    NothingNew,
+    /// A scene is new, and one in its byte neither read nor listed.
+    UnreadBeside,
 }
 
-const SORTS: [Sort; 6] = [
-    Sort::BeforeFirst,
-    Sort::AfterLast,
-    Sort::InFrameThatProgramsNothing,
-    Sort::OddStart,
-    Sort::OddEnd,
-    Sort::LongPlan,
-];
+impl Sort {
+    /// Those that have to come up.
+    fn all(kind: Kind) -> &'static [Self] {
+        match kind {
+            Kind::Update => &[
+                Self::BeforeFirst,
+                Self::AfterLast,
+                Self::InFrameThatProgramsNothing,
+                Self::OddStart,
+                Self::OddEnd,
+                Self::LongPlan,
+            ],
+            Kind::Mark => &[
+                Self::BeforeFirst,
+                Self::AfterLast,
+                Self::InFrameThatProgramsNothing,
+                Self::Repeats,
+                Self::NothingNew,
+                Self::UnreadBeside,
+            ],
+        }
+    }
+}
 
 /// How often each of `Met` has to come up.
 const LEAST: u64 = 40;
@@ -93,6 +114,25 @@ impl Tally {
         }
         if setting.region().len() >= 1_000 {
             self.sort(setting, Sort::LongPlan);
+        }
+        if let Some(scenes) = &setting.scenes {
+            self.list(setting, scenes, records);
+        }
+    }
+
+    fn list(&mut self, setting: &Setting, scenes: &[u32], records: usize) {
+        let mut distinct = scenes.to_vec();
+        distinct.sort_unstable();
+        distinct.dedup();
+        if distinct.len() < scenes.len() {
+            self.sort(setting, Sort::Repeats);
+        }
+        if records == 0 {
+            self.sort(setting, Sort::NothingNew);
+        }
+        let mut bytes = setting.old.iter().zip(&setting.wanted);
+        if bytes.any(|(old, wanted)| old != wanted && *wanted != 0) {
+            self.sort(setting, Sort::UnreadBeside);
         }
     }
 
@@ -137,10 +177,10 @@ impl Tally {
     }
 
     /// What came up less often than it has to.
-    pub fn too_rare(&self) -> Vec<String> {
+    pub fn too_rare(&self, kind: Kind) -> Vec<String> {
         let mut all = vec![Met::AllRoomNeeded, Met::NothingLeft];
         for chip in CHIPS {
-            all.extend(SORTS.map(|sort| Met::Of { chip, sort }));
+            all.extend(Sort::all(kind).iter().map(|&sort| Met::Of { chip, sort }));
             all.extend(PARTS.map(|part| Met::Passed { chip, part }));
             for (wp_high, step_1) in [(false, false), (false, true), (true, false), (true, true)] {
                 all.push(Met::Between { chip, wp_high, step_1 });

@@ -3,7 +3,7 @@
 use std::marker::PhantomData;
 
 use cases::literal::bytes_text;
-use cases::Rng;
+use cases::{book, Rng};
 use model::{kind, Calls, Planned, State};
 
 use crate::setting::Setting;
@@ -16,6 +16,8 @@ const RECORDS_ALL_CUT: usize = 500;
 const RECORDS_CUT: usize = 100;
 /// Bytes around the region that are looked at after each cut; all are after each plan.
 const AROUND: usize = 300;
+/// So many scenes of a list are asked for after each cut and each run.
+const SCENES_ASKED: usize = 4;
 
 pub struct Trial<'a, C> {
     setting: &'a Setting,
@@ -180,6 +182,7 @@ impl<'a, C: Calls> Trial<'a, C> {
             }
         }
         self.check_around("after a cut")?;
+        self.check_book(state)?;
         let room = first_length + self.more_room;
         let (planned, script) = self.plan(state, room)?;
         tally.again(script.len(), room);
@@ -206,13 +209,17 @@ impl<'a, C: Calls> Trial<'a, C> {
         if self.array[self.setting.region()] != self.setting.wanted {
             return Err("the region isn't as wanted after the run".into());
         }
-        self.check_around("after a run")
+        self.check_around("after a run")?;
+        self.check_book(state)
     }
 
     fn plan(&mut self, state: State, room: usize) -> Result<(Planned, Vec<u8>), String> {
-        let Setting { wp_high, start, wanted, .. } = self.setting;
+        let Setting { wp_high, start, wanted, scenes, .. } = self.setting;
         let mut buffer = vec![0; room];
-        let planned = C::plan(state, *wp_high, self.array, *start, wanted, &mut buffer);
+        let planned = match scenes {
+            Some(scenes) => C::book_mark(state, *wp_high, self.array, *start, scenes, &mut buffer),
+            None => C::plan(state, *wp_high, self.array, *start, wanted, &mut buffer),
+        };
         accepted(planned.number, "the plan")?;
         buffer.truncate(planned.length as usize);
         Ok((planned, buffer))
@@ -244,6 +251,25 @@ impl<'a, C: Calls> Trial<'a, C> {
 
     fn restore(&mut self, region: &[u8]) {
         self.array[self.setting.region()].copy_from_slice(region);
+    }
+
+    /// Of a book it is told what its bytes say: how many scenes are read, and whether some of those
+    /// listed and their neighbours are.
+    fn check_book(&self, state: State) -> Result<(), String> {
+        let Setting { start, scenes: Some(scenes), .. } = self.setting else { return Ok(()) };
+        let bytes = &self.array[self.setting.region()];
+        let read = bytes.iter().map(|byte| byte.count_zeros()).sum();
+        let count = C::book_count(state, self.array, *start);
+        let is_told = |scene: u32| {
+            let told = C::book_is_read(state, self.array, *start, scene);
+            (told.number, told.value) == (0, book::is_read(bytes, scene).into())
+        };
+        let mut asked = scenes.iter().take(SCENES_ASKED).flat_map(|scene| [*scene, scene ^ 1]);
+        if (count.number, count.value) == (0, read) && asked.all(is_told) {
+            Ok(())
+        } else {
+            Err("what is told of the book isn't what it holds".into())
+        }
     }
 
     fn check_around(&self, when: &str) -> Result<(), String> {

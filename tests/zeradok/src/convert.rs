@@ -78,6 +78,12 @@ impl From<binding::Planned> for model::Planned {
     }
 }
 
+impl From<binding::Told> for model::Told {
+    fn from(told: binding::Told) -> Self {
+        Self { number: told.number, state: told.state.into(), value: told.value }
+    }
+}
+
 impl From<binding::Record> for model::Record {
     fn from(record: binding::Record) -> Self {
         Self {

@@ -7,12 +7,13 @@ mod convert;
 mod layout;
 
 pub use binding::{WORST_BYTES, WORST_FRAMES, WORST_MICROSECONDS};
-use model::{Answer, Calls, Planned, Ran, Record, State, Surveyed};
+use model::{Answer, Calls, Planned, Ran, Record, State, Surveyed, Told};
 
 /// The verified library.
 pub struct Library;
 
-/// A chip's state as the library holds it: what a host keeps that sends many frames to one chip.
+/// A chip's state as the library holds it: what a host keeps that sends many frames to one chip, or
+/// asks it many questions.
 #[derive(Clone, Copy)]
 pub struct Chip(binding::State);
 
@@ -37,6 +38,18 @@ impl Chip {
         output: &mut [u8],
     ) -> u32 {
         binding::frame(&mut self.0, wp_high, array, frame, output)
+    }
+
+    /// Number and value of the answer.
+    pub fn book_is_read(self, array: &[u8], sector: usize, scene: u32) -> (u32, u32) {
+        let told = binding::book_is_read(self.0, array, sector, scene);
+        (told.number, told.value)
+    }
+
+    /// Number and value of the answer.
+    pub fn book_count(self, array: &[u8], sector: usize) -> (u32, u32) {
+        let told = binding::book_count(self.0, array, sector);
+        (told.number, told.value)
     }
 }
 
@@ -101,5 +114,24 @@ impl Calls for Library {
 
     fn read(script: &[u8], offset: usize) -> Record {
         binding::read(script, offset).into()
+    }
+
+    fn book_is_read(state: State, array: &[u8], sector: usize, scene: u32) -> Told {
+        binding::book_is_read(state.into(), array, sector, scene).into()
+    }
+
+    fn book_count(state: State, array: &[u8], sector: usize) -> Told {
+        binding::book_count(state.into(), array, sector).into()
+    }
+
+    fn book_mark(
+        state: State,
+        wp_high: bool,
+        array: &[u8],
+        sector: usize,
+        scenes: &[u32],
+        buffer: &mut [u8],
+    ) -> Planned {
+        binding::book_mark(state.into(), wp_high, array, sector, scenes, buffer).into()
     }
 }

@@ -4,8 +4,9 @@ use std::fmt;
 
 use model::{kind, Reason};
 
-use super::sorts::{FrameSort, PlanSort, ScriptSort, TimeSort};
+use super::sorts::{AskedSort, FrameSort, ListSort, PlanSort, ScriptSort, TimeSort, WrongBookSort};
 use super::Met;
+use crate::book::Promise;
 use crate::case::BAD_RECORD;
 use crate::unread::Clause;
 use crate::worst::Limit;
@@ -46,6 +47,12 @@ pub fn goals() -> Vec<Goals> {
         goal("clauses of A14 tested", 1_000, clauses()),
         goal("limits of A8 come near", 5_000, limits()),
         goal("refusals with the room of A8", 250, refused_with_room()),
+        goal("sorts of marks", 30, mark_sorts()),
+        goal("sorts of lists", 100, list_sorts()),
+        goal("sorts of scenes and sectors that there aren't", 30, wrong_book_sorts()),
+        goal("questions, by what the chip does", 100, questions()),
+        goal("scenes told read and unread", 1_000, told()),
+        goal("promises of A2 tested", 500, promises()),
     ]
 }
 
@@ -104,11 +111,14 @@ fn refused() -> Vec<Met> {
         ("survey", &[11, 12, 13, 14]),
         ("read", &[11, 12, 13, 14]),
     ];
-    let with_chip: [(&str, &[u32]); 4] = [
+    let with_chip: [(&str, &[u32]); 7] = [
         ("frame", &[1, 2, 3, 4]),
         ("cut_frame", &[1, 2, 3, 4, 5]),
         ("plan", &[1, 2, 6, 7, 8, 9, 10]),
         ("run", &[1, 2, 11, 12, 13, 14, 4]),
+        ("book_is_read", &[1, 2, 15]),
+        ("book_count", &[1, 2, 15]),
+        ("book_mark", &[1, 2, 15, 7, 9, 10]),
     ];
     let mut all = Vec::new();
     for (call, numbers) in without_chip {
@@ -128,7 +138,8 @@ fn refused_first() -> Vec<Met> {
     let script = [(11, 12), (11, 13), (11, 14), (12, 13), (12, 14), (13, 12), (13, 14)];
     let before_script = [(1, 2), (1, 12), (1, 13), (1, 14), (2, 11), (2, 12), (2, 13), (2, 14)];
     let before_output = [(1, 4), (11, 4), (12, 4), (13, 4), (14, 4)];
-    let calls: [(&str, &[(u32, u32)]); 8] = [
+    let before_book = [(1, 2), (1, 15), (2, 15)];
+    let calls: [(&str, &[(u32, u32)]); 12] = [
         ("frame", &[(1, 2), (1, 3), (1, 4), (2, 3), (2, 4), (3, 4)]),
         ("cut_frame", &[(1, 2), (1, 5), (2, 3), (2, 5), (3, 4), (3, 5), (4, 5)]),
         ("plan", &[(1, 2), (2, 6), (6, 7), (7, 8), (7, 10), (8, 9), (8, 10), (9, 10)]),
@@ -137,6 +148,10 @@ fn refused_first() -> Vec<Met> {
         ("run", &before_output),
         ("survey", &script),
         ("read", &[(11, 14)]),
+        ("book_is_read", &before_book),
+        ("book_count", &before_book),
+        ("book_mark", &before_book),
+        ("book_mark", &[(15, 7), (15, 9), (15, 10), (7, 10), (9, 10)]),
     ];
     let mut all = Vec::new();
     for (call, pairs) in calls {
@@ -159,7 +174,7 @@ fn bad_records() -> Vec<Met> {
 
 fn levels() -> Vec<Met> {
     let mut all = Vec::new();
-    for call in ["frame", "cut_frame", "plan", "run"] {
+    for call in ["frame", "cut_frame", "plan", "run", "book_mark"] {
         for chip in CHIPS {
             for bp in 0..8 {
                 for wp_high in [false, true] {
@@ -196,6 +211,74 @@ fn plan_sorts() -> Vec<Met> {
         }
     }
     all
+}
+
+/// The sorts of plans that a mark can be: a book starts and ends at even addresses, and no border
+/// of protection lies inside it.
+fn mark_sorts() -> Vec<Met> {
+    const ANY: [PlanSort; 7] = [
+        PlanSort::Empty,
+        PlanSort::WithStep1,
+        PlanSort::WithoutStep1,
+        PlanSort::ExactRoom,
+        PlanSort::OneByteShort,
+        PlanSort::FromWel,
+        PlanSort::FromArmed,
+    ];
+    let mut all = Vec::new();
+    for chip in CHIPS {
+        for wp_high in [false, true] {
+            all.extend(ANY.map(|sort| Met::Mark { chip, wp_high, sort }));
+        }
+        all.push(Met::Mark { chip, wp_high: false, sort: PlanSort::LockedButFree });
+    }
+    all
+}
+
+fn list_sorts() -> Vec<Met> {
+    let on_each = |&sort| CHIPS.map(|chip| Met::List { chip, sort });
+    ListSort::ALL.iter().flat_map(on_each).collect()
+}
+
+fn wrong_book_sorts() -> Vec<Met> {
+    let mut all = Vec::new();
+    for call in ["book_is_read", "book_count", "book_mark"] {
+        for chip in CHIPS {
+            for &sort in WrongBookSort::ALL {
+                let of_scene =
+                    matches!(sort, WrongBookSort::SceneOneTooHigh | WrongBookSort::SceneOver16Bits);
+                if !of_scene || call != "book_count" {
+                    all.push(Met::WrongBook { call, chip, sort });
+                }
+            }
+        }
+    }
+    all
+}
+
+fn questions() -> Vec<Met> {
+    let mut all = Vec::new();
+    for call in ["book_is_read", "book_count"] {
+        for chip in CHIPS {
+            let others = match chip {
+                F25L008A => AskedSort::InAai,
+                _ => AskedSort::InPowerDown,
+            };
+            let sorts = [AskedSort::AtRest, AskedSort::Busy, others];
+            all.extend(sorts.map(|sort| Met::Asked { call, chip, sort }));
+        }
+    }
+    all
+}
+
+fn told() -> Vec<Met> {
+    let on_each = |read| CHIPS.map(|chip| Met::Told { chip, read });
+    [false, true].into_iter().flat_map(on_each).collect()
+}
+
+fn promises() -> Vec<Met> {
+    let on_each = |promise| CHIPS.map(|chip| Met::Promised { chip, promise });
+    Promise::ALL.into_iter().flat_map(on_each).collect()
 }
 
 fn script_sorts() -> Vec<Met> {

@@ -5,15 +5,16 @@ mod sorts;
 
 use std::collections::BTreeMap;
 
-use model::{Model, Reason, State};
+use model::{Model, Reason, State, BOOK};
 
+use crate::book::{self, Promise};
 use crate::case::{Case, On, Outcome, BAD_RECORD};
 use crate::generator::Item;
 use crate::unread::Clause;
 use crate::worst::{Found, Limit};
 use crate::CHIPS;
 pub use goals::{goals, Goals};
-use sorts::{FrameSort, PlanSort, ScriptSort, TimeSort};
+use sorts::{AskedSort, FrameSort, ListSort, PlanSort, ScriptSort, TimeSort, WrongBookSort};
 
 /// Something that a case can meet. An unknown chip has number 0, as has none.
 #[derive(Clone, Copy, Debug, PartialEq, Eq, PartialOrd, Ord)]
@@ -34,6 +35,16 @@ pub enum Met {
     Frame { call: &'static str, sort: FrameSort },
     /// A plan was of this sort.
     Plan { chip: u8, wp_high: bool, sort: PlanSort },
+    /// The plan of a mark was of this sort.
+    Mark { chip: u8, wp_high: bool, sort: PlanSort },
+    /// A list that was marked was of this sort.
+    List { chip: u8, sort: ListSort },
+    /// A scene or a sector that there isn't was of this sort, and all else right.
+    WrongBook { call: &'static str, chip: u8, sort: WrongBookSort },
+    /// A question was answered, of a chip that does this.
+    Asked { call: &'static str, chip: u8, sort: AskedSort },
+    /// A scene was told to be read, or not to be.
+    Told { chip: u8, read: bool },
     /// A script that ran was of this sort.
     Run { chip: u8, sort: ScriptSort },
     /// A script that was found good was of this sort.
@@ -48,6 +59,8 @@ pub enum Met {
     Near { chip: u8, limit: Limit },
     /// A plan with the room of the worst case was refused for something else.
     RefusedWithRoom { chip: u8, number: u32 },
+    /// A mark put this promise of A2 to the test.
+    Promised { chip: u8, promise: Promise },
 }
 
 #[derive(Default)]
@@ -74,6 +87,13 @@ impl Counts {
     pub fn note_tested(&mut self, chip: u8, clauses: &[Clause]) {
         for &clause in clauses {
             self.count(Met::Tested { chip, clause });
+        }
+    }
+
+    /// Counts the promises that a mark put to the test.
+    pub fn note_promised(&mut self, chip: u8, promises: &[Promise]) {
+        for &promise in promises {
+            self.count(Met::Promised { chip, promise });
         }
     }
 
@@ -106,8 +126,12 @@ impl Counts {
             self.count(Met::BadRecord { call, number, behind: offset > 0 });
         }
         if let (10, true, Some(on)) = (number, item.one_short, item.case.on()) {
-            let (wp_high, sort) = (on.wp_high, PlanSort::OneByteShort);
-            self.count(Met::Plan { chip, wp_high, sort });
+            self.note_plan(call, on, PlanSort::OneByteShort);
+        }
+        if let (book::WRONG_BOOK, Some((sector, scenes))) = (number, item.case.book()) {
+            for sort in sorts::of_wrong_book(chip, sector, scenes) {
+                self.count(Met::WrongBook { call, chip, sort });
+            }
         }
     }
 
@@ -125,10 +149,29 @@ impl Counts {
             (Case::Plan { on, start, wanted, .. }, Outcome::Planned(planned)) => {
                 let script = &buffer[..planned.length as usize];
                 let region = *start..start + wanted.len();
-                let (chip, wp_high) = (on.state.chip, on.wp_high);
                 for sort in sorts::of_plan(on, region, buffer.len(), script) {
-                    self.count(Met::Plan { chip, wp_high, sort });
+                    self.note_plan(call, on, sort);
                 }
+            }
+            (Case::BookMark { on, sector, scenes, .. }, Outcome::Planned(planned)) => {
+                let script = &buffer[..planned.length as usize];
+                let region = *sector..sector + BOOK;
+                for sort in sorts::of_plan(on, region, buffer.len(), script) {
+                    self.note_plan(call, on, sort);
+                }
+                let chip = on.state.chip;
+                for sort in sorts::of_list(scenes, script) {
+                    self.count(Met::List { chip, sort });
+                }
+            }
+            (Case::BookIsRead { on, .. }, Outcome::Told(told)) => {
+                let (chip, sort) = (on.state.chip, sorts::of_asked(&on.state));
+                self.count(Met::Asked { call, chip, sort });
+                self.count(Met::Told { chip, read: told.value == 1 });
+            }
+            (Case::BookCount { on, .. }, _) => {
+                let (chip, sort) = (on.state.chip, sorts::of_asked(&on.state));
+                self.count(Met::Asked { call, chip, sort });
             }
             (Case::Run { on, script, .. }, Outcome::Ran(ran)) => {
                 let chip = on.state.chip;
@@ -148,6 +191,14 @@ impl Counts {
             (_, Outcome::Record(record)) => self.count(Met::Record { kind: record.kind }),
             _ => {}
         }
+    }
+
+    fn note_plan(&mut self, call: &'static str, on: &On, sort: PlanSort) {
+        let (chip, wp_high) = (on.state.chip, on.wp_high);
+        self.count(match call {
+            "plan" => Met::Plan { chip, wp_high, sort },
+            _ => Met::Mark { chip, wp_high, sort },
+        });
     }
 
     fn note_frame(&mut self, call: &'static str, on: &On, frame: &[u8]) {
@@ -173,11 +224,12 @@ fn known(chip: u8) -> u8 {
     }
 }
 
-/// The place of a refusal in the order of checks: a script's output comes last, and of its records
-/// the first bad one decides.
+/// The place of a refusal in the order of checks: a script's output comes last, of its records the
+/// first bad one decides, and a book's own refusal stands between the chip's and the planner's.
 fn rank(call: &str, number: u32) -> u32 {
     match (call, number) {
         ("run", 4) => *BAD_RECORD.end() + 1,
+        (_, book::WRONG_BOOK) => 3,
         _ if BAD_RECORD.contains(&number) => *BAD_RECORD.start(),
         _ => number,
     }

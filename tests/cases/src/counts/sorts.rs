@@ -2,7 +2,7 @@
 
 use std::ops::Range;
 
-use model::{Kind, State, LONGEST_REGION, LONGEST_SCRIPT};
+use model::{Kind, State, LONGEST_REGION, LONGEST_SCRIPT, SCENES, SECTOR};
 
 use crate::case::On;
 use crate::{first_protected, size, F25L008A, F25L05PA};
@@ -47,6 +47,32 @@ sorts!(PlanSort {
     /// Changes only below the border, in a region that passes it.
     ProtectedButUnchanged,
 });
+
+sorts!(ListSort {
+    Empty,
+    Repeats,
+    /// Every scene in it is read already.
+    NothingNew,
+    LongerThanBook,
+    LastScene,
+});
+
+sorts!(WrongBookSort {
+    SceneOneTooHigh,
+    /// A scene that there would be if its number were cut to 16 bits.
+    SceneOver16Bits,
+    NoMultiple,
+    /// A multiple of 256, but not of 4,096.
+    PageStart,
+    StartAtSize,
+    StartAboveSize,
+    /// There would be a sector if the start were cut to 32 bits.
+    StartOver32Bits,
+    /// With the sector's length the start would pass 64 bits.
+    StartNearTop,
+});
+
+sorts!(AskedSort { AtRest, Busy, InAai, InPowerDown });
 
 sorts!(ScriptSort { Empty, LongestScript, MicrosecondsOver32Bits });
 
@@ -110,6 +136,57 @@ pub fn of_plan(
         (free && bpl && !on.wp_high, PlanSort::LockedButFree),
         (free && passes_border, PlanSort::ProtectedButUnchanged),
     ])
+}
+
+/// The sorts of a list that was marked by this script.
+pub fn of_list(scenes: &[u32], script: &[u8]) -> impl Iterator<Item = ListSort> {
+    let mut distinct = scenes.to_vec();
+    distinct.sort_unstable();
+    distinct.dedup();
+    let nothing_new = !scenes.is_empty() && script.is_empty();
+    holding([
+        (scenes.is_empty(), ListSort::Empty),
+        (distinct.len() < scenes.len(), ListSort::Repeats),
+        (nothing_new, ListSort::NothingNew),
+        (scenes.len() > SCENES as usize, ListSort::LongerThanBook),
+        (distinct.last() == Some(&(SCENES - 1)), ListSort::LastScene),
+    ])
+}
+
+/// What is wrong with scenes or with a sector's start, if only one of them is.
+pub fn of_wrong_book(
+    chip: u8,
+    sector: usize,
+    scenes: &[u32],
+) -> impl Iterator<Item = WrongBookSort> {
+    let size = size(chip);
+    let starts = |sector: usize| sector < size && sector.is_multiple_of(SECTOR);
+    let is_sector = starts(sector);
+    let is_cut_sector = !is_sector && starts(sector as u32 as usize);
+    let are_scenes = scenes.iter().all(|scene| *scene < SCENES);
+    let is_cut = |scene: &u32| *scene > 0xFFFF && scene & 0xFFFF < SCENES;
+    let near_top = sector.checked_add(SECTOR).is_none();
+    let inside = are_scenes && sector < size;
+    holding([
+        (is_sector && scenes.contains(&SCENES), WrongBookSort::SceneOneTooHigh),
+        (is_sector && scenes.iter().any(is_cut), WrongBookSort::SceneOver16Bits),
+        (inside && !sector.is_multiple_of(256), WrongBookSort::NoMultiple),
+        (inside && sector.is_multiple_of(256), WrongBookSort::PageStart),
+        (are_scenes && sector == size, WrongBookSort::StartAtSize),
+        (are_scenes && sector > size && !near_top, WrongBookSort::StartAboveSize),
+        (are_scenes && is_cut_sector, WrongBookSort::StartOver32Bits),
+        (are_scenes && near_top, WrongBookSort::StartNearTop),
+    ])
+}
+
+/// What the chip that was asked does.
+pub fn of_asked(state: &State) -> AskedSort {
+    match state {
+        State { aai: true, .. } => AskedSort::InAai,
+        State { power_down: true, .. } => AskedSort::InPowerDown,
+        State { left: 0, .. } => AskedSort::AtRest,
+        _ => AskedSort::Busy,
+    }
 }
 
 /// The sorts of a good script that waits so long.

@@ -6,9 +6,8 @@ mod reached;
 mod saves;
 
 use std::fmt;
-use std::marker::PhantomData;
 
-use model::{Calls, Planned};
+use model::{Calls, Planned, State, Surveyed};
 
 pub use amounts::{Amounts, Limit};
 pub use reached::failing;
@@ -38,34 +37,39 @@ pub struct Found {
     pub breaches: Vec<Breach>,
 }
 
+/// Somebody's calls.
+type Plan = fn(State, bool, &[u8], usize, &[u8], &mut [u8]) -> Planned;
+type Survey = fn(&[u8]) -> Surveyed;
+
 /// Plans random saves of a chip.
-pub struct Planner<C> {
+pub struct Planner {
     chip: u8,
     saves: Saves,
     buffer: Vec<u8>,
-    calls: PhantomData<C>,
+    plan: Plan,
+    survey: Survey,
 }
 
-impl<C: Calls> Planner<C> {
-    pub fn new(chip: u8, seed: u64) -> Self {
+impl Planner {
+    pub fn new<C: Calls>(chip: u8, seed: u64) -> Self {
         let saves = Saves::new(chip, seed);
-        Self { chip, saves, buffer: vec![0; AMPLE], calls: PhantomData }
+        Self { chip, saves, buffer: vec![0; AMPLE], plan: C::plan, survey: C::survey }
     }
 
     /// Plans one more save.
     pub fn plan(&mut self) -> (Save, Found) {
         let save = self.saves.draw();
         let room = &mut self.buffer[..room(self.chip)];
-        let planned = self.saves.plan::<C>(&save, room);
+        let planned = self.saves.plan(self.plan, &save, room);
         let mut breaches = Vec::new();
-        if !is_counted::<C>(&planned, room) {
+        if !is_counted(self.survey, &planned, room) {
             breaches.push(Breach::Miscounted);
         }
         let mut amounts = Amounts::of(&planned);
         if planned.number == ROOM {
             breaches.push(Breach::Short);
             // Only with more room does it say what it comes to.
-            amounts = Amounts::of(&self.saves.plan::<C>(&save, &mut self.buffer));
+            amounts = Amounts::of(&self.saves.plan(self.plan, &save, &mut self.buffer));
         }
         let above = Limit::ALL.into_iter().filter(|limit| limit.is_passed_by(self.chip, &amounts));
         breaches.extend(above.map(Breach::Above));
@@ -85,9 +89,9 @@ fn room(chip: u8) -> usize {
 
 /// Whether a plan's script has the frames and the microseconds that the plan says: of a refused one
 /// none.
-fn is_counted<C: Calls>(planned: &Planned, buffer: &[u8]) -> bool {
+fn is_counted(survey: Survey, planned: &Planned, buffer: &[u8]) -> bool {
     buffer.get(..planned.length as usize).is_some_and(|script| {
-        let surveyed = C::survey(script);
+        let surveyed = survey(script);
         surveyed.number == 0
             && surveyed.frames == planned.frames
             && surveyed.microseconds == u64::from(planned.microseconds)

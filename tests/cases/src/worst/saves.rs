@@ -1,7 +1,8 @@
 //! Random saves, of which many come near the limits.
 
-use model::{Calls, Planned, State, LONGEST_REGION};
+use model::{Planned, State, LONGEST_REGION};
 
+use super::Plan;
 use crate::literal::{bytes_text, state_text};
 use crate::{plans, size, spoil, states, Rng};
 
@@ -46,8 +47,8 @@ impl Saves {
         save
     }
 
-    pub fn plan<C: Calls>(&self, save: &Save, buffer: &mut [u8]) -> Planned {
-        C::plan(save.state, save.wp_high, &self.array, save.start, &save.wanted, buffer)
+    pub fn plan(&self, plan: Plan, save: &Save, buffer: &mut [u8]) -> Planned {
+        plan(save.state, save.wp_high, &self.array, save.start, &save.wanted, buffer)
     }
 
     /// The last one with this room, as Rust text that can be pasted.

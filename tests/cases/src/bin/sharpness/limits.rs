@@ -38,9 +38,12 @@ pub struct Limits(Broken<OnChip>);
 
 impl Limits {
     pub fn of<C: Calls>(seed: u64) -> Self {
+        Self::broken(CHIPS.map(|chip| (chip, Planner::new::<C>(chip, seed))))
+    }
+
+    fn broken(planners: [(u8, Planner); 2]) -> Self {
         let mut limits = Self::default();
-        for chip in CHIPS {
-            let mut planner = Planner::<C>::new(chip, seed);
+        for (chip, mut planner) in planners {
             for index in 0..PLANS {
                 let (_, found) = planner.plan();
                 for breach in found.breaches {
@@ -69,7 +72,7 @@ impl fmt::Display for Limits {
 /// Whether the right model keeps the limits.
 pub fn are_kept(seed: u64) -> bool {
     let kept = CHIPS.map(|chip| {
-        let mut planner = Planner::<Model>::new(chip, seed);
+        let mut planner = Planner::new::<Model>(chip, seed);
         (0..PLANS).filter(|_| planner.plan().1.breaches.is_empty()).count()
     });
     println!("plans of each chip with which it keeps the limits of A8: {kept:?} of {PLANS}");

@@ -1,10 +1,11 @@
 //! The wrong copies of the model against the right one: `sharpness [seed]`. Each has to be told
 //! apart by the cases that the library is compared with, and the right model must not be. Some have
-//! to break clauses of A14 or limits of A8 too, which the right model must keep.
+//! to break clauses of A14, limits of A8 or promises of A2 too, which the right model must keep.
 
 mod broken;
 mod clauses;
 mod limits;
+mod promises;
 
 use std::fmt;
 use std::process::ExitCode;
@@ -14,6 +15,7 @@ use cases::{explore, written_out, Difference};
 use clauses::Clauses;
 use limits::Limits;
 use model::{Calls, Fault, Model};
+use promises::Promises;
 
 const SEED: u64 = 1;
 const CASES: usize = 50_000;
@@ -25,11 +27,16 @@ fn main() -> ExitCode {
     let failing = written_out::<Model>();
     println!("cases written out that the right model fails: {failing:?}");
     let scripts = clauses::scripts(seed, CASES);
-    let right = [failing.is_empty(), clauses::are_kept(&scripts), limits::are_kept(seed)];
-    let mut sharp = right == [true; 3];
+    let right = [
+        failing.is_empty(),
+        clauses::are_kept(&scripts),
+        limits::are_kept(seed),
+        promises::are_kept(seed),
+    ];
+    let mut sharp = right == [true; 4];
 
-    let broken = "clause of A14 and script, limit of A8 and plan";
-    println!("{:<28} {:>8}  {:<9}  {broken}", "wrong copy", "case", "call");
+    let broken = "clause of A14 and script, limit of A8 and plan, promise of A2 and mark";
+    println!("{:<28} {:>8}  {:<12}  {broken}", "wrong copy", "case", "call");
     for fault in FAULTS {
         let told = hunt(*fault, seed, &scripts);
         println!("{:<28} {told}", format!("{fault:?}"));
@@ -49,6 +56,7 @@ struct Told {
     case: Option<Difference>,
     clauses: Clauses,
     limits: Limits,
+    promises: Promises,
 }
 
 impl Told {
@@ -57,12 +65,15 @@ impl Told {
             case: explore::<C>(seed, CASES, |_, _, _| ()).err(),
             clauses: Clauses::of::<C>(scripts),
             limits: Limits::of::<C>(seed),
+            promises: Promises::of::<C>(seed),
         }
     }
 
     /// Whether a case tells the copy with this fault, and it breaks all that it has to.
     fn is_enough(&self, fault: Fault) -> bool {
-        let missing = [self.clauses.missing(fault), self.limits.missing(fault)].concat();
+        let missing =
+            [self.clauses.missing(fault), self.limits.missing(fault), self.promises.missing(fault)]
+                .concat();
         for what in &missing {
             println!("  NOT BROKEN: {what}");
         }
@@ -72,8 +83,8 @@ impl Told {
 
 impl fmt::Display for Told {
     fn fmt(&self, to: &mut fmt::Formatter<'_>) -> fmt::Result {
-        let broken = format!("{}{}", self.clauses, self.limits);
-        let width = if broken.is_empty() { 0 } else { 9 };
+        let broken = format!("{}{}{}", self.clauses, self.limits, self.promises);
+        let width = if broken.is_empty() { 0 } else { 12 };
         match &self.case {
             Some(found) => write!(to, "{:>8}  {:<width$}{broken}", found.index, found.call),
             None => write!(to, "NOT TOLD APART{broken}"),
@@ -142,4 +153,24 @@ faults! {
     WholePageSent
     StretchesSentApart
     PagesUnprotectedApart
+    SceneBitFromTop
+    OneIsRead
+    RepeatToggles
+    Scene4096Taken
+    Scene4095Refused
+    SceneCutTo16Bits
+    PageTakenAsSector
+    SizeTakenAsSector
+    SectorModuloSize
+    BookCheckedAfterRest
+    BookCheckedBeforeArray
+    BusyQuestionRefused
+    LastByteNotCounted
+    WholeSectorCounted
+    LastSceneDropped
+    LongListCut
+    BookFromAddress0
+    MarkedAtAddress0
+    NothingNewNotPlanned
+    RefusedMarkWrites
 }
