@@ -10,6 +10,11 @@ import sys
 
 os.chdir(os.path.join(os.path.dirname(os.path.abspath(__file__)), '..'))
 UNFIT = ('has no `Need-', 'no occurrence', 'is not in scope', 'missing argument')
+# what a layer that stands above `promises` is refused for
+WALLS = {
+    'does not use the library': 'a crate that is not listed cannot be named',
+    'cannot be unfolded here': 'a name that is passed on shut cannot be opened',
+}
 HEAD = '''# The edits, and the first error of each log
 
 Written by `tools/edits.py` from the logs of a whole run of the gate. Each edit keeps the shape of what it changes; the check refuses it because a fact no longer holds.
@@ -35,8 +40,11 @@ def first_error(crate, name):
     claim, text = told.groups() if told else ('', text)
     if any(u in text for u in UNFIT):
         return where, claim, None
+    wall = next((why for said, why in WALLS.items() if said in text), None)
     pair = re.search(r'one has `((?!c \.)[^`]{1,40})`\s*\(expected\).{0,80}?the other has `([^`]{1,40})`', log, re.S)
-    if text.startswith('`omega`'):
+    if wall:
+        why = wall
+    elif text.startswith('`omega`'):
         why = 'arithmetic: the goal does not follow'
     elif 'no proof of' in text:
         why = 'no proof is found'

@@ -2,8 +2,10 @@
 // of a list; it knows of the planner what `promises` says, and nothing else.
 mod marking; // the used bytes, as they are to be
 mod refusal; // 1, 2 and 15
+mod sizes;
 mod telling; // what the bytes say
 
+use sizes::LAST_SCENE;
 use state::Planned;
 use state::State;
 use state::Told;
@@ -14,7 +16,7 @@ ghost use Rattle.book.specs.Answers.{isReadTold, countTold, Marks};
 pub fn is_read(s: State, array: &[u8], sector: usize, scene: u32) -> Told
     ensures { λ r. ⌜ r ≡ isReadTold s (now (array .entry)) sector scene ⌝ }
 {
-    let number = refusal::book_refusal(s, array.len(), sector, 4095 < scene);
+    let number = refusal::book_refusal(s, array.len(), sector, LAST_SCENE < scene);
     if number != 0 {
         return state::tell(number, s, 0);
     }

@@ -1,13 +1,11 @@
 // The used bytes as they are to be: those of the array, with each listed scene's bit turned to 0.
+use crate::sizes::USED;
 ghost use mathlib.Core.Path.{_≡_};
 ghost use mathlib.Core.Bool.{false};
 ghost use Prim.Native.Nat.{_+_, _≤_, _<_};
 ghost use lib.ListN.{length, replicate};
 ghost use Rattle.book.specs.Book.{usedPart, markedScene, marked};
 ghost use Rattle.book.specs.Refusals.{hasOver};
-
-// The bytes that a book uses.
-const USED: usize = 512;
 
 pub fn blank() -> [u8; USED]
     ensures { λ r. ⌜ r ≡ replicate 512 0xff ⌝ }

@@ -1,14 +1,11 @@
 // The book's own refusals, in the order checked: 1, 2, 15.
+use crate::sizes::LAST_SCENE;
+use crate::sizes::SECTOR;
 use common::refusals;
 use state::State;
 ghost use mathlib.Core.Path.{_≡_};
 ghost use Rattle.common.specs.Refusals.{firstOf};
 ghost use Rattle.book.specs.Refusals.{hasOver, bookRefusals};
-
-// The last scene of a book.
-const LAST_SCENE: u32 = 4095;
-
-const SECTOR: usize = 4096;
 
 // Whether a scene of the list is over 4,095.
 pub fn has_over(scenes: &[u32]) -> bool

@@ -1,13 +1,11 @@
 // What the bytes of a book say.
+use crate::sizes::USED;
 ghost use mathlib.Core.Path.{_≡_};
 ghost use Prim.Native.Nat.{_+_, _-_, _≤_, _<_};
 ghost use lib.Count.{ones};
 ghost use lib.ListN.{length};
 ghost use Rattle.common.specs.Bits.{bit};
 ghost use Rattle.book.specs.Book.{isRead, countRead};
-
-// The bytes that a book uses.
-const USED: usize = 512;
 
 // 1 where it holds.
 pub fn flag_of(holds: bool) -> u32

@@ -1,6 +1,6 @@
 -- The planner's promises: all that a layer above may cite of a plan. The names that it passes on are shut above: they can be cited and not opened, so a
--- layer that lists this crate and none of the planner's leans on what is said here, and on the laws in proofs/Laws/Promises.antt. No word of a script's
--- records is in it.
+-- layer that lists this crate and none of the planner's leans on what is said here, and on the laws in proofs/Laws. No word of a script's records is in
+-- it.
 -- Not promised: "After a cut the 05PA may stand unprotected; demand 3 speaks of the array." (01)
 use mathlib.Core.Path.{_≡_}
 use mathlib.Core.Bool.{Bool, true, false}
@@ -23,10 +23,10 @@ use Rattle.state.specs.Soundness.{isSound}
 pub use Rattle.frame.specs.Device.{Device}
 -- every byte of the region is as wanted; a 1 is wanted where the array has 0
 pub use Rattle.region.specs.Region.{NothingChanges, WantedRises}
--- the call: its answer and the buffer before and after; its refusals in the order checked, by tests of which busy, AAI and power-down are one, and a
--- status register that can't be written another; the bytes of its script
+-- the call: its answer, and the buffer before and after; the number of its first refusal that holds; of their conditions, that the chip is busy, in AAI or
+-- in power-down, and that its status register has to be written and can't be; and the bytes of its script
 pub use Rattle.plan.specs.Update.{Plans}
-pub use Rattle.plan.specs.Refusals.{isActive, isLocked, bytesNeeded, planRefusals, planRefusal}
+pub use Rattle.plan.specs.Refusals.{planRefusal, isActive, isLocked, bytesNeeded}
 -- bytes that are room enough for every plan of a chip
 pub use Rattle.worst.specs.Worst.{roomEnough}
 -- the array with the region as wanted and the rest as it was; each bit of the region as before or as wanted, and nothing outside moved
@@ -68,9 +68,9 @@ laterRefusals s wp array start wanted room =
 pub record Answered (s : State) (wp : Bool) (array : List ℕ) (start : ℕ) (wanted buffer after : List ℕ) (r : Planned) : Type 0 where
   -- the first refusal that holds, 0 where none does
   pub number-is : r .number ≡ planRefusal s wp array start wanted (length buffer)
-  pub refusal-is : planRefusal s wp array start wanted (length buffer) ≡ firstOf (planRefusals s wp array start wanted (length buffer))
   pub accepted-exactly : Bytes wanted → Exactly (r .number ≡ 0) (Accepts s wp array start wanted (length buffer))
   pub eight-exactly : Bytes wanted → Exactly (r .number ≡ wantedRises) (Rises s array start wanted)
+  -- where 1, 2, 6 and 8 are ruled out, three are left
   pub later : Bytes wanted → Fitting s array start wanted → (WantedRises array start wanted → ⊥)
       → r .number ≡ firstOf (laterRefusals s wp array start wanted (length buffer))
   -- 9 comes with BPL 1 and WP low, and never else
@@ -81,8 +81,8 @@ pub record Answered (s : State) (wp : Bool) (array : List ℕ) (start : ℕ) (wa
   pub state-given : r .state ≡ s
   -- an accepted plan is the empty script exactly when nothing changes; then its counts are 0 and the buffer is as it was
   pub empty-exactly : r .number ≡ 0 → Exactly (r .length ≡ 0) (NothingChanges array start wanted)
-  pub nothing-to-do : r .number ≡ 0 → NothingChanges array start wanted
-      → (r ≡ emptyPlan s) × (after ≡ buffer)
+  pub nothing-to-do : r .number ≡ 0 → NothingChanges array start wanted → (r ≡ emptyPlan s) × (after ≡ buffer)
+  -- 10 never comes with so much room
   pub room-enough : roomEnough s ≤ length buffer → r .number ≡ bufferTooShort → ⊥
 
 -- ---- the chip behind it

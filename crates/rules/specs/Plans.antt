@@ -2,8 +2,8 @@
 -- its records.
 use mathlib.Core.Path.{_≡_}
 use mathlib.Core.List.{List, [], _++_}
-use Prim.Native.Nat.{ℕ, _+_, _≤_, _<_}
-use lib.ListN.{length, getD, take, drop}
+use Prim.Native.Nat.{ℕ, _+_, _≤_}
+use lib.ListN.{length, take, drop}
 use Rattle.state.specs.declared.State.{State}
 use Rattle.script.specs.Record.{Record, encode}
 use Rattle.script.specs.Decode.{records, decode}

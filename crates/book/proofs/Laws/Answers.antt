@@ -10,7 +10,7 @@ use Rattle.common.specs.Bits.{bit}
 use Rattle.state.specs.declared.State.{State}
 use Rattle.state.specs.declared.Told.{Told}
 use Rattle.state.specs.declared.Planned.{Planned}
-use Rattle.state.specs.Answer.{toldOf, refusedPlan}
+use Rattle.state.specs.Answer.{refusedPlan}
 use Rattle.state.proofs.Laws.Told.{told-value, told-refused}
 use Rattle.promises.specs.Promises.{Plans}
 use Rattle.promises.proofs.Laws.Answered.{plans-determined, plan-answered}

@@ -1,15 +1,11 @@
 -- Over any history of markings, only what was asked for is read, and what is read stays so.
 -- Assumes nothing.
-use mathlib.Core.Path.{_≡_, refl, sym, ap, _∙_}
+use mathlib.Core.Path.{_≡_, refl, sym, _∙_}
 use mathlib.Core.Bool.{Bool, true, false, _||_}
-use mathlib.Core.List.{List, [], _∷_}
+use mathlib.Core.List.{List}
 use Prim.Native.Nat.{ℕ, _+_, _/_, _<_}
 use native.Mathlib.Omega.{arith}
-use lib.ListN.{getD}
-use Rattle.common.specs.Bits.{Bytes, bitAt}
-use Rattle.common.specs.Lists.{within}
-use Rattle.common.proofs.Laws.Booleans.{or-imp, imp-or}
-use Rattle.common.proofs.Laws.Choice.{cases}
+use Rattle.common.specs.Bits.{Bytes}
 use Rattle.common.proofs.Laws.Places.{within-yes}
 use Rattle.promises.specs.Promises.{Device}
 use Rattle.book.specs.Book.{isRead, isListed}

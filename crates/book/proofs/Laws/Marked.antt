@@ -1,7 +1,7 @@
 -- The used bytes with scenes turned read: their length, that they are bytes, and each bit.
 -- Assumes nothing.
-use mathlib.Core.Path.{_≡_, refl, sym, ap, _∙_}
-use mathlib.Core.Bool.{Bool, true, false, cond, _||_}
+use mathlib.Core.Path.{_≡_, refl, ap, _∙_}
+use mathlib.Core.Bool.{Bool, true, false, cond}
 use mathlib.Core.List.{List, [], _∷_}
 use mathlib.Core.Logic.{⊎-elim}
 use Prim.Native.Nat.{ℕ, _+_, _-_, _*_, _/_, _%_, _^_, _≤_, _<_, min}
@@ -10,9 +10,9 @@ use native.Mathlib.Omega.{arith}
 use lib.Bits.{bitAnd, and-le-l}
 use lib.Dec.{eqb}
 use lib.ListN.{length, getD, set, drop, length-set, drop-of-length-le}
-use lib.Pow.{pow-mono, pow-lt}
+use lib.Pow.{pow-lt}
 use lib.Seq.{drop-cons, set-out, getD-set-same, getD-set-other}
-use borrow.Author.Tests.{eq-eqb, ne-eqb, eqb-true, eqb-false}
+use borrow.Author.Tests.{eqb-true, eqb-false}
 use Rattle.common.specs.Bits.{Bytes, bitAt}
 use Rattle.common.proofs.Laws.Bits.{bit-lt, bit-and, bit-not, bit-pow-same, bit-pow-other}
 use Rattle.common.proofs.Laws.Choice.{cases}

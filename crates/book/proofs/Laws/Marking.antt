@@ -1,7 +1,7 @@
 -- What a marking leaves: from the planner's promises alone, bit by bit.
 -- Assumes nothing.
 use mathlib.Core.Path.{_≡_, refl, sym, ap, _∙_}
-use mathlib.Core.Bool.{Bool, true, false, true≢false, cond, _||_}
+use mathlib.Core.Bool.{Bool, true, false, cond, _||_}
 use mathlib.Core.List.{List}
 use mathlib.Core.Logic.{_⊎_, inl, inr, ⊎-elim}
 use Prim.Native.Nat.{ℕ, _+_, _-_, _*_, _/_, _%_, _≤_, _<_}
@@ -17,11 +17,10 @@ use Rattle.common.proofs.Laws.Choice.{cases}
 use Rattle.common.proofs.Laws.Lists.{split}
 use Rattle.common.proofs.Laws.Places.{within-yes}
 use Rattle.state.specs.declared.Planned.{Planned}
-use Rattle.state.specs.State.{dataOf}
 use Rattle.promises.specs.Promises.{Device, Plans, planRefusal, updated, Partway, Ready, Answered, Promises}
 use Rattle.promises.proofs.Laws.Answered.{plan-answered}
 use Rattle.promises.proofs.Laws.Promises.{promises-kept, updated-at, updated-partway}
-use Rattle.book.specs.Book.{isRead, usedPart, marked, wantedPart, isListed}
+use Rattle.book.specs.Book.{isRead, usedPart, wantedPart, isListed}
 use Rattle.book.specs.Refusals.{bookRefusal, Opened}
 use Rattle.book.specs.Answers.{Marks}
 use Rattle.book.specs.Marking.{MarkFinished, MarkLost, BehindMark, BesideKept, AllMarked, OnlyListed, MarkedAgain}

@@ -16,13 +16,12 @@ use Rattle.common.proofs.Laws.Lists.{split}
 use Rattle.common.proofs.Laws.Refusals.{Given, given-exactly, clear, first-before, first-behind}
 use Rattle.state.specs.declared.State.{State}
 use Rattle.state.specs.declared.Planned.{Planned}
-use Rattle.state.specs.State.{dataOf}
 use Rattle.promises.specs.Promises.{isActive, isLocked, bytesNeeded, roomEnough, WantedRises, Fitting, laterRefusals}
 use Rattle.promises.proofs.Laws.Answered.{plan-answered}
 use Rattle.book.specs.Book.{wantedPart, isListed}
 use Rattle.book.specs.Refusals.{hasOver, bookRefusals, bookRefusal, markRefusals, Opened}
 use Rattle.book.specs.Answers.{Marks}
-use Rattle.book.proofs.Laws.Refusals.{refusal-of, opened-exactly, sector-inside, book-inside}
+use Rattle.book.proofs.Laws.Refusals.{refusal-of, opened-exactly, book-inside}
 use Rattle.book.proofs.Laws.Marking.{wanted-length, wanted-bytes, wanted-bit}
 
 -- ---- what a book wants fits, and no bit of it rises

@@ -1,7 +1,7 @@
 -- The book's own refusals, and what is so where there is none.
 -- Assumes nothing.
 use mathlib.Core.Path.{_≡_, refl, sym, ap, _∙_}
-use mathlib.Core.Bool.{Bool, true, false, not, _&&_, _||_}
+use mathlib.Core.Bool.{Bool, true, false, not}
 use mathlib.Core.List.{List, [], _∷_}
 use Prim.Native.Nat.{ℕ, _+_, _%_, _≤_, _<_}
 use native.Mathlib.Omega.{arith}
@@ -73,6 +73,3 @@ module _ (s : State) (array : List ℕ) (sector : ℕ) (scenes : List ℕ) where
 
     pub book-inside : sector + 512 ≤ length array
     book-inside = omega (arith, sector-inside)
-
-    pub book-low : sector + 4096 ≤ 1048576
-    book-low = omega (arith, sector-inside, o .sized, regular (s .chip) .size-le-mebibyte)

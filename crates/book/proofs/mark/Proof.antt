@@ -3,9 +3,8 @@
 use mathlib.Core.Path.{_≡_, sym, ap, _∙_}
 use native.Mathlib.Omega.{arith}
 use lib.ListN.{length}
-use Rattle.common.specs.Refusals.{firstOf}
 use Rattle.book.specs.Book.{marked, wantedPart}
-use Rattle.book.specs.Refusals.{bookRefusals, bookRefusal, Opened}
+use Rattle.book.specs.Refusals.{bookRefusal, Opened}
 use Rattle.book.proofs.Laws.Marked.{length-marked}
 use Rattle.book.proofs.Laws.Read.{used-length}
 use Rattle.book.proofs.Laws.Refusals.{refusal-of, opened-exactly, book-inside}

@@ -10,7 +10,7 @@ use lib.Bits.{bitAnd, and-self}
 use lib.ListN.{length, getD, List·getD-eq-default}
 use lib.Seq.{ext-getD}
 use Rattle.common.proofs.Laws.Choice.{cases}
-use Rattle.common.proofs.Laws.Lists.{split, length-mapi, getD-mapi}
+use Rattle.common.proofs.Laws.Lists.{split}
 use Rattle.common.specs.Bits.{Bytes}
 use Rattle.common.proofs.Laws.Bits.{and-full}
 use Rattle.common.proofs.Laws.Places.{within-bounds}

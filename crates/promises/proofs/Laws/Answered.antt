@@ -3,7 +3,7 @@
 use mathlib.Core.Path.{_≡_, refl, sym, ap, _∙_}
 use mathlib.Core.Bool.{Bool, true, false, true≢false, not, _&&_, _||_}
 use mathlib.Core.List.{List, []}
-use Prim.Native.Nat.{ℕ, _+_, _<_}
+use Prim.Native.Nat.{ℕ, _+_}
 use native.Mathlib.Omega.{arith}
 use lib.Dec.{ltb, eqb}
 use lib.ListN.{length}
@@ -37,7 +37,7 @@ module _ (s : State) (wp : Bool) (array : List ℕ) (start : ℕ) (wanted : List
     abbrev number : ℕ
     number = planRefusal s wp array start wanted room
 
-    pub refusal-in-order : number ≡ firstOf (planRefusals s wp array start wanted room)
+    refusal-in-order : number ≡ firstOf (planRefusals s wp array start wanted room)
     unfolding planRefusal
     refusal-in-order = refl
 
@@ -147,7 +147,6 @@ module _ (s : State) (wp : Bool) (array : List ℕ) (start : ℕ) (wanted : List
   unfolding Plans roomEnough
   plan-answered buffer after r plans = record {
     number-is = plans .number;
-    refusal-is = refusal-in-order (length buffer);
     accepted-exactly = λ bytes. let e = refusal-0-exactly (length buffer) bytes in
         record { when = λ z. e .when (sym (plans .number) ∙ z); only-when = λ a. plans .number ∙ e .only-when a };
     eight-exactly = λ bytes. let e = refusal-8-exactly (length buffer) bytes in

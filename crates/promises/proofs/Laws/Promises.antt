@@ -23,7 +23,7 @@ use Rattle.worst.proofs.Laws.Worst.{accepted-in-worst}
 use Rattle.powercut.specs.PowerCut.{stateAfterPlan, Partway, Finished, PowerLost, BehindPlan}
 use Rattle.powercut.proofs.Laws.PowerCut.{power-cut-safe, behind-ready}
 use Rattle.promises.specs.Promises.{Promises}
-pub use Rattle.powercut.proofs.Laws.Updated.{updated-at, updated-partway}
+pub use Rattle.powercut.proofs.Laws.Updated.{updated-at, updated-length, updated-partway}
 
 -- with nothing to do, or with something
 rested-by : (rs : List Record) (s : State) → (stateAfterPlan rs s ≡ s) ⊎ (stateAfterPlan rs s ≡ withArmed (withWel s false) false)

@@ -4,11 +4,11 @@ use mathlib.Core.Path.{_≡_, sym, _∙_}
 use mathlib.Core.Bool.{Bool, true, false, true≢false, _&&_, _||_, not}
 use mathlib.Core.List.{List}
 use mathlib.Core.Logic.{inl, inr, ⊎-elim}
-use Prim.Native.Nat.{ℕ, _+_, _-_, _≤_, _<_}
+use Prim.Native.Nat.{ℕ, _+_, _-_, _<_}
 use native.Mathlib.Omega.{arith}
 use lib.Dec.{leb, ltb, eqb}
 use lib.ListN.{length, getD}
-use borrow.Author.Tests.{eqb-true, eqb-false, ne-eqb, leb-true, leb-false, not-true, not-false}
+use borrow.Author.Tests.{eqb-false, ne-eqb, leb-true, leb-false, not-true}
 use Rattle.common.specs.Limits.{longestWanted}
 use Rattle.common.proofs.Laws.Booleans.{and-l, and-r, and-i, and-off, not-i}
 use Rattle.common.proofs.Laws.Choice.{cases}

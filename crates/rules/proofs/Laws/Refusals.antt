@@ -25,7 +25,6 @@ use Rattle.frame.specs.Ran.{maskWanted}
 use Rattle.frame.specs.Call.{frameRefusals, FrameRun, cutRefusals, CutRun}
 use Rattle.frame.proofs.Laws.Accepted.{frame-exactly, cut-exactly}
 use Rattle.frame.proofs.Laws.Call.{frame-refusal-keeps, cut-refusal-keeps}
-use Rattle.script.specs.Record.{encode}
 use Rattle.script.specs.Survey.{surveyOf}
 use Rattle.run.specs.declared.Ran.{Ran}
 use Rattle.run.specs.Script.{scriptRefusals, scriptNumber, scriptOffset, ScriptRun}
@@ -33,7 +32,6 @@ use Rattle.run.proofs.Laws.Accepted.{script-exactly, carried-surveyed, offset-s
 use Rattle.run.proofs.Laws.Script.{script-refused, run-script-determined}
 use Rattle.state.specs.declared.Planned.{Planned}
 use Rattle.region.proofs.Laws.Words.{rises-exactly}
-use Rattle.plan.specs.Plan.{planRecords}
 use Rattle.plan.specs.Refusals.{bytesNeeded, planRefusals}
 use Rattle.plan.specs.Update.{PlanUpdated}
 use Rattle.plan.proofs.Laws.Refusals.{refused-exactly}

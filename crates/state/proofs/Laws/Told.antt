@@ -5,7 +5,6 @@ use Prim.Native.Nat.{ℕ, _<_}
 use native.Mathlib.Omega.{arith}
 use borrow.Author.Tests.{ne-eqb}
 use Rattle.state.specs.declared.State.{State}
-use Rattle.state.specs.declared.Told.{Told}
 use Rattle.state.specs.Answer.{toldOf}
 
 pub told-value : (number : ℕ) (s : State) (value : ℕ) → number ≡ 0 → toldOf number s value ≡ record { number = 0; state = s; value = value }

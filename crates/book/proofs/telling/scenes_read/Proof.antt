@@ -1,7 +1,7 @@
 -- `book::telling::scenes_read` meets its contract: the invariant says that the scenes of the bytes passed are counted; a byte has as many as zeros.
 -- Assumes nothing.
 use mathlib.Core.Path.{_≡_, sym, ap, _∙_}
-use Prim.Native.Nat.{ℕ, _+_, _-_, _*_, _≤_}
+use Prim.Native.Nat.{_+_, _-_, _*_, _≤_}
 use native.Mathlib.Omega.{arith}
 use lib.Count.{ones-le}
 use lib.ListN.{getD, length}
