@@ -20,11 +20,8 @@ pub fn is_read(s: State, array: &[u8], sector: usize, scene: u32) -> Told
     if number != 0 {
         return state::tell(number, s, 0);
     }
-    state::tell(
-        0,
-        s,
-        telling::flag_of(telling::scene_read(array, sector, scene)),
-    )
+    let flag = common::bit_of(telling::scene_read(array, sector, scene), 1);
+    state::tell(0, s, common::wide(flag))
 }
 
 // How many scenes are read.

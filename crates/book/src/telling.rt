@@ -4,15 +4,7 @@ ghost use mathlib.Core.Path.{_≡_};
 ghost use Prim.Native.Nat.{_+_, _-_, _≤_, _<_};
 ghost use lib.Count.{ones};
 ghost use lib.ListN.{length};
-ghost use Rattle.common.specs.Bits.{bit};
 ghost use Rattle.book.specs.Book.{isRead, countRead};
-
-// 1 where it holds.
-pub fn flag_of(holds: bool) -> u32
-    ensures { λ r. ⌜ r ≡ bit holds 1 ⌝ }
-{
-    if holds { 1 } else { 0 }
-}
 
 pub fn scene_read(array: &[u8], sector: usize, scene: u32) -> bool
     requires { ⌜ (sector + 512 ≤ length (now array)) × (scene < 4096) ⌝ }

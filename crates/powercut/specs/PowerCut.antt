@@ -115,7 +115,7 @@ abbrev pub BehindPlan : Bool → Device → ℕ → List ℕ → Device → Type
 BehindPlan wp chip start wanted after = Finished wp chip start wanted after ⊎ PowerLost wp chip start wanted after
 
 -- a chip of this number that the next plan can be made for: sound and at rest, with an array of its size and of bytes
-pub record Ready (number : ℕ) (chip : Device) : Type 0 where
+pub record ReadyToPlan (number : ℕ) (chip : Device) : Type 0 where
   pub same-chip : chip .state .chip ≡ number
   pub sound : isSound (chip .state) ≡ true
   pub at-rest : isActive (chip .state) ≡ false

@@ -32,7 +32,7 @@ pub use Rattle.worst.specs.Worst.{roomEnough}
 -- the array with the region as wanted and the rest as it was; each bit of the region as before or as wanted, and nothing outside moved
 pub use Rattle.powercut.specs.PowerCut.{updated, Partway}
 -- the chip behind a plan that was run to its end, that was cut somewhere and powered up, or either; a chip that the next plan can be made for
-pub use Rattle.powercut.specs.PowerCut.{Finished, PowerLost, BehindPlan, Ready}
+pub use Rattle.powercut.specs.PowerCut.{Finished, PowerLost, BehindPlan, ReadyToPlan}
 
 -- ---- what the call answers
 
@@ -44,7 +44,7 @@ pub record Fitting (s : State) (array : List ℕ) (start : ℕ) (wanted : List �
   pub fits : start + length wanted ≤ dataOf s .size
 
 -- a plan that is accepted
-pub record Accepts (s : State) (wp : Bool) (array : List ℕ) (start : ℕ) (wanted : List ℕ) (room : ℕ) : Type 0 where
+pub record PlanAccepted (s : State) (wp : Bool) (array : List ℕ) (start : ℕ) (wanted : List ℕ) (room : ℕ) : Type 0 where
   pub fitting : Fitting s array start wanted
   pub at-rest : isActive s ≡ false
   pub falls : WantedRises array start wanted → ⊥
@@ -52,7 +52,7 @@ pub record Accepts (s : State) (wp : Bool) (array : List ℕ) (start : ℕ) (wan
   pub roomy : bytesNeeded s array start wanted ≤ room
 
 -- one that is refused for a wanted 1
-pub record Rises (s : State) (array : List ℕ) (start : ℕ) (wanted : List ℕ) : Type 0 where
+pub record RiseRefused (s : State) (array : List ℕ) (start : ℕ) (wanted : List ℕ) : Type 0 where
   pub fitting : Fitting s array start wanted
   pub at-rest : isActive s ≡ false
   pub rises : WantedRises array start wanted
@@ -65,11 +65,11 @@ laterRefusals s wp array start wanted room =
     ∷ (bufferTooShort, ltb room (bytesNeeded s array start wanted))
     ∷ []
 
-pub record Answered (s : State) (wp : Bool) (array : List ℕ) (start : ℕ) (wanted buffer after : List ℕ) (r : Planned) : Type 0 where
+pub record PlanAnswered (s : State) (wp : Bool) (array : List ℕ) (start : ℕ) (wanted buffer after : List ℕ) (r : Planned) : Type 0 where
   -- the first refusal that holds, 0 where none does
   pub number-is : r .number ≡ planRefusal s wp array start wanted (length buffer)
-  pub accepted-exactly : Bytes wanted → Exactly (r .number ≡ 0) (Accepts s wp array start wanted (length buffer))
-  pub eight-exactly : Bytes wanted → Exactly (r .number ≡ wantedRises) (Rises s array start wanted)
+  pub accepted-exactly : Bytes wanted → Exactly (r .number ≡ 0) (PlanAccepted s wp array start wanted (length buffer))
+  pub eight-exactly : Bytes wanted → Exactly (r .number ≡ wantedRises) (RiseRefused s array start wanted)
   -- where 1, 2, 6 and 8 are ruled out, three are left
   pub later : Bytes wanted → Fitting s array start wanted → (WantedRises array start wanted → ⊥)
       → r .number ≡ firstOf (laterRefusals s wp array start wanted (length buffer))
@@ -96,7 +96,7 @@ pub record Promises (wp : Bool) (chip : Device) (start : ℕ) (wanted : List ℕ
   -- run to its end or cut anywhere: each bit of the region is as before or as wanted, and nothing outside has moved
   pub partway : (after : Device) → BehindPlan wp chip start wanted after → Partway (chip .array) start wanted (after .array)
   -- and the chip is sound and at rest, of the same number, with an array of its size and of bytes
-  pub ready : (after : Device) → BehindPlan wp chip start wanted after → Ready (chip .state .chip) after
+  pub ready : (after : Device) → BehindPlan wp chip start wanted after → ReadyToPlan (chip .state .chip) after
   -- planned again behind a cut, with 22 bytes more room or with more than that, or with the chip's worst case: accepted, and that plan completes the update
   pub again : (cut : Device) → PowerLost wp chip start wanted cut → (more : ℕ) → room + 22 ≤ more
       → planRefusal (cut .state) wp (cut .array) start wanted more ≡ 0

@@ -17,7 +17,7 @@ use Rattle.common.proofs.Laws.Choice.{cases}
 use Rattle.common.proofs.Laws.Lists.{split}
 use Rattle.common.proofs.Laws.Places.{within-yes}
 use Rattle.state.specs.declared.Planned.{Planned}
-use Rattle.promises.specs.Promises.{Device, Plans, planRefusal, updated, Partway, Ready, Answered, Promises}
+use Rattle.promises.specs.Promises.{Device, Plans, planRefusal, updated, Partway, ReadyToPlan, PlanAnswered, Promises}
 use Rattle.promises.proofs.Laws.Answered.{plan-answered}
 use Rattle.promises.proofs.Laws.Promises.{promises-kept, updated-at, updated-partway}
 use Rattle.book.specs.Book.{isRead, usedPart, wantedPart, isListed}
@@ -94,7 +94,7 @@ module _ (wp : Bool) (chip : Device) (sector : ℕ) (scenes buffer after : List 
   pub plan-of : Plans (chip .state) wp before sector want buffer after r
   plan-of = marks .planned no-refusal
 
-  pub answered : Answered (chip .state) wp before sector want buffer after r
+  pub answered : PlanAnswered (chip .state) wp before sector want buffer after r
   answered = plan-answered (chip .state) wp before sector want buffer after r plan-of
 
   pub kept : Promises wp chip sector want (length buffer)
@@ -163,7 +163,7 @@ module _ (wp : Bool) (chip : Device) (sector : ℕ) (scenes buffer after : List 
     as-uncut = λ done uncut finished first. kept .completed cut done lost (rw same-wanted at finished) ∙ sym (kept .finished uncut first);
   }
     where
-      ready : Ready (chip .state .chip) cut
+      ready : ReadyToPlan (chip .state .chip) cut
       ready = kept .ready cut (inr lost)
 
       only : OnlyListed sector scenes before (cut .array)

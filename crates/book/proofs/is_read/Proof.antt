@@ -33,15 +33,20 @@ scene-read-requires c κs =
     let o = open-at c in
     (book-inside _ _ _ _ o, none-over _ (o .scenes-kept) 0 (omega arith))
 
-flag-of-requires : tie.Need-flag-of-requires
-flag-of-requires c κs = search needs
+bit-of-requires : tie.Need-bit-of-requires
+bit-of-requires c κs = search needs
+
+wide-requires : tie.Need-wide-requires
+wide-requires c κs = search needs
 
 tell-requires-2 : tie.Need-tell-requires-2
 tell-requires-2 c κs = search needs
 
 returns-2 : tie.Need-returns-2
 returns-2 c =
-    c .tell2 .ensures ∙ rw (c .before .flag-of .ensures, c .before .before .scene-read .ensures) (sym (is-read-told _ _ _ _ (accepted (c .before .before .before))))
+    c .tell2 .ensures
+    ∙ rw (c .before .wide .ensures .0, c .before .before .bit-of .ensures .0, c .before .before .before .scene-read .ensures)
+    (sym (is-read-told _ _ _ _ (accepted (c .before .before .before .before))))
 
 pub is-read-spec : {M : Type 1} → statement M
 is-read-spec =
@@ -51,6 +56,7 @@ is-read-spec =
     tell-requires
     returns
     scene-read-requires
-    flag-of-requires
+    bit-of-requires
+    wide-requires
     tell-requires-2
     returns-2)

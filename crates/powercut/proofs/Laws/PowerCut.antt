@@ -29,7 +29,7 @@ use Rattle.plan.specs.Plan.{planRecords}
 use Rattle.plan.specs.Refusals.{isActive, planRefusal, Accepted}
 use Rattle.plan.proofs.Laws.Plan.{plan-fits}
 use Rattle.plan.proofs.Laws.Refusals.{accepted-of}
-use Rattle.powercut.specs.PowerCut.{Planner, scriptRecords, stateAfterPlan, powered, CutShort, between, inside, during, Recovers, PowerCutSafe, Finished, PowerLost, BehindPlan, Ready}
+use Rattle.powercut.specs.PowerCut.{Planner, scriptRecords, stateAfterPlan, powered, CutShort, between, inside, during, Recovers, PowerCutSafe, Finished, PowerLost, BehindPlan, ReadyToPlan}
 use Rattle.powercut.proofs.Laws.States.{standing, rest, is-rest, still-at-rest}
 use Rattle.powercut.proofs.Laws.Near.{near-bytes}
 use Rattle.powercut.proofs.Laws.Safe.{Task, Safe, torn, safe-in-time, always-between, always-inside}
@@ -81,10 +81,10 @@ module _ (given : Device) (bp : ℕ) (wel armed : Bool) (wp : Bool) (start : ℕ
   }
 
   -- the chip is ready for the next plan: behind a cut, and at the end
-  cut-ready : (after : Device) → CutShort plan wp chip after → Ready (chip .state .chip) after
-  cut-ready = cut-by (Ready (chip .state .chip)) (ready-again given bp wel armed wp start wanted room bytes accepted)
+  cut-ready : (after : Device) → CutShort plan wp chip after → ReadyToPlan (chip .state .chip) after
+  cut-ready = cut-by (ReadyToPlan (chip .state .chip)) (ready-again given bp wel armed wp start wanted room bytes accepted)
 
-  end-ready : (after : Device) → after ≡ run wp plan chip → Ready (chip .state .chip) after
+  end-ready : (after : Device) → after ≡ run wp plan chip → ReadyToPlan (chip .state .chip) after
   unfolding isActive
   end-ready after e =
       let safe = ran .safe in
@@ -118,10 +118,10 @@ power-cut-safe wp chip start wanted room bytes e =
 -- behind it, finished or cut, the chip is ready for the next plan
 pub behind-ready : (wp : Bool) (chip : Device) (start : ℕ) (wanted : List ℕ) (room : ℕ) → Bytes (chip .array)
     → planRefusal (chip .state) wp (chip .array) start wanted room ≡ 0 → (after : Device) → BehindPlan wp chip start wanted after
-    → Ready (chip .state .chip) after
+    → ReadyToPlan (chip .state .chip) after
 unfolding Finished PowerLost
 behind-ready wp chip start wanted room bytes e after behind =
-    at-rest-by wp chip start wanted room e (λ (d : Device). BehindPlan wp d start wanted after → Ready (d .state .chip) after)
+    at-rest-by wp chip start wanted room e (λ (d : Device). BehindPlan wp d start wanted after → ReadyToPlan (d .state .chip) after)
     (λ bp wel armed a. ⊎-elim (end-ready chip bp wel armed wp start wanted room bytes a after) (cut-ready chip bp wel armed wp start wanted room bytes a after)) behind
 
 -- every frame of such a plan can be cut with every mask of the length that it wants: there is an output that the call accepts

@@ -25,7 +25,7 @@ use Rattle.plan.specs.Plan.{stepOneNeeded, planRecords}
 use Rattle.plan.specs.Refusals.{isActive, Accepted}
 use Rattle.plan.proofs.Laws.Steps.{not-needed-free, free-not-needed}
 use Rattle.plan.proofs.Laws.Refusals.{of-accepted}
-use Rattle.powercut.specs.PowerCut.{Recovers, Ready}
+use Rattle.powercut.specs.PowerCut.{Recovers, ReadyToPlan}
 use Rattle.powercut.proofs.Laws.States.{standing, rest}
 use Rattle.powercut.proofs.Laws.Near.{near-bytes}
 use Rattle.powercut.proofs.Laws.Safe.{Task, Safe}
@@ -122,7 +122,7 @@ module _ (given : Device) (bp : ℕ) (wel armed : Bool) (wp : Bool) (start : ℕ
         }
 
     -- and the chip is ready for any other plan
-    pub ready-again : Ready (s .chip) (withState d (poweredUp (d .state)))
+    pub ready-again : ReadyToPlan (s .chip) (withState d (poweredUp (d .state)))
     unfolding isActive
     ready-again =
         let a = accepted-again (room + 22) (le-refl (room + 22)) .region in

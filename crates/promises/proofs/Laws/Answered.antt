@@ -30,7 +30,7 @@ use Rattle.plan.proofs.Laws.Plan.{plan-empty-exactly}
 use Rattle.plan.proofs.Laws.Update.{plan-given, plan-update-determined, refused-untouched}
 use Rattle.worst.specs.Worst.{roomEnough}
 use Rattle.worst.proofs.Laws.Worst.{worst-room}
-use Rattle.promises.specs.Promises.{Fitting, Accepts, Rises, laterRefusals, Answered}
+use Rattle.promises.specs.Promises.{Fitting, PlanAccepted, RiseRefused, laterRefusals, PlanAnswered}
 
 module _ (s : State) (wp : Bool) (array : List ℕ) (start : ℕ) (wanted : List ℕ) where
   module _ (room : ℕ) where
@@ -67,7 +67,7 @@ module _ (s : State) (wp : Bool) (array : List ℕ) (start : ℕ) (wanted : List
       not-8 : (WantedRises array start wanted → ⊥) → wantsRise array start wanted ≡ false
       not-8 none = cases (wantsRise array start wanted) (λ t. absurd (none (rises-exactly array start wanted bytes .when t))) (λ f. f)
 
-      refusal-0-exactly : Exactly (number ≡ 0) (Accepts s wp array start wanted room)
+      refusal-0-exactly : Exactly (number ≡ 0) (PlanAccepted s wp array start wanted room)
       refusal-0-exactly = record {
         when = λ e.
             let c = clear (planRefusals s wp array start wanted room) refl (sym refusal-in-order ∙ e) in
@@ -85,7 +85,7 @@ module _ (s : State) (wp : Bool) (array : List ℕ) (start : ℕ) (wanted : List
             (not-1 o, (not-2 o, (not-6 o, (a .at-rest, (not-8 (a .falls), (a .unlocked, (le-ltb room (bytesNeeded s array start wanted) (a .roomy), tt)))))));
       }
 
-      refusal-8-exactly : Exactly (number ≡ wantedRises) (Rises s array start wanted)
+      refusal-8-exactly : Exactly (number ≡ wantedRises) (RiseRefused s array start wanted)
       refusal-8-exactly =
           let given = given-exactly (planRefusals s wp array start wanted room) wantedRises (omega arith) in
           let bits = rises-exactly array start wanted bytes in
@@ -143,7 +143,7 @@ module _ (s : State) (wp : Bool) (array : List ℕ) (start : ℕ) (wanted : List
         only-when = λ same. ap (λ (p : Planned). p .length) (empty-answer same .0);
       }
 
-  pub plan-answered : (buffer after : List ℕ) (r : Planned) → Plans s wp array start wanted buffer after r → Answered s wp array start wanted buffer after r
+  pub plan-answered : (buffer after : List ℕ) (r : Planned) → Plans s wp array start wanted buffer after r → PlanAnswered s wp array start wanted buffer after r
   unfolding Plans roomEnough
   plan-answered buffer after r plans = record {
     number-is = plans .number;

@@ -26,7 +26,7 @@ use Rattle.frame.specs.Device.{Device}
 use Rattle.plan.specs.Refusals.{bytesNeeded}
 use Rattle.plan.specs.Update.{PlanUpdated, Plans}
 use Rattle.worst.specs.Worst.{roomEnough}
-use Rattle.powercut.specs.PowerCut.{Finished, PowerLost, Ready}
+use Rattle.powercut.specs.PowerCut.{Finished, PowerLost, ReadyToPlan}
 use Rattle.powercut.proofs.Laws.Calls.{accepted-run-finished}
 use Rattle.book.specs.Book.{isRead, countRead, wantedPart, isListed}
 use Rattle.book.specs.Refusals.{hasOver, isSector, bookRefusals, bookRefusal, markRefusals}
@@ -246,7 +246,7 @@ module _ (wp : Bool) (chip : Device) (sector : ℕ) (scenes buffer after : List 
       again-of : (lost : Device) → CutAt wp (take (planned .length) after) chip lost → MarkedAgain wp chip sector scenes (length buffer) lost
       again-of lost c = mark-again wp chip sector scenes buffer after planned bytes marks good lost (lost-by lost c)
 
-      ready-of : (lost : Device) → CutAt wp (take (planned .length) after) chip lost → Ready (chip .state .chip) lost
+      ready-of : (lost : Device) → CutAt wp (take (planned .length) after) chip lost → ReadyToPlan (chip .state .chip) lost
       ready-of lost c = kept wp chip sector scenes buffer after planned bytes marks good .ready lost (inr (lost-by lost c))
 
 pub book-rules : BookRules
