@@ -11,7 +11,7 @@ use lib.ListN.{length, getD, drop, drop-of-length-le}
 use lib.Seq.{drop-cons}
 use borrow.Author.Tests.{eq-eqb, eqb-true, ltb-false}
 use Rattle.common.specs.Refusals.{Exactly}
-use Rattle.common.proofs.Laws.Booleans.{or-imp, or-none-l, or-none-r}
+use Rattle.common.proofs.Laws.Booleans.{or-imp, or-none-l, or-none-r, or-true, or-false}
 use Rattle.common.proofs.Laws.Choice.{cases}
 use Rattle.common.proofs.Laws.Places.{Passing}
 use Rattle.book.specs.Book.{isListed}
@@ -25,11 +25,7 @@ over-none = refl
 
 pub over-one : (scene : ℕ) → hasOver (scene ∷ []) ≡ ltb 4095 scene
 unfolding hasOver
-over-one scene = or-nothing (ltb 4095 scene)
-  where
-    or-nothing : (t : Bool) → (t || false) ≡ t
-    or-nothing true = refl
-    or-nothing false = refl
+over-one scene = or-false (ltb 4095 scene)
 
 module _ (scenes : List ℕ) (i : ℕ) where
   -- a search at its turn i: the entry is over, or it is not, or there is none left
@@ -87,10 +83,6 @@ unfolding isListed
 listed-at scene [] i h e = absurd (omega arith)
 listed-at scene (first ∷ others) zero h e = rw (eq-eqb first scene e) refl
 listed-at scene (first ∷ others) (suc i) h e = rw (listed-at scene others i (omega arith) e) (or-true (eqb first scene))
-  where
-    or-true : (t : Bool) → (t || true) ≡ true
-    or-true true = refl
-    or-true false = refl
 
 stands : (scene : ℕ) (scenes : List ℕ) → isListed scene scenes ≡ true → Stands scene scenes
 unfolding isListed

@@ -15,15 +15,10 @@ use lib.Seq.{drop-cons, set-out, getD-set-same, getD-set-other}
 use borrow.Author.Tests.{eqb-true, eqb-false}
 use Rattle.common.specs.Bits.{Bytes, bitAt}
 use Rattle.common.proofs.Laws.Bits.{bit-lt, bit-and, bit-not, bit-pow-same, bit-pow-other}
-use Rattle.common.proofs.Laws.Choice.{cases}
+use Rattle.common.proofs.Laws.Choice.{cond-same, cases}
 use Rattle.common.proofs.Laws.Lists.{split}
 use Rattle.book.specs.Book.{markedScene, marked, isListed}
 use Rattle.book.proofs.Laws.Listed.{listed-none, listed-first}
-
--- 0, listed or not
-pub zero-either : (listed : Bool) → _≡_ {A = ℕ} (cond listed 0 0) 0
-zero-either true = refl
-zero-either false = refl
 
 -- ---- one scene
 
@@ -123,5 +118,5 @@ marked-bit (scene ∷ scenes) used k b h l =
     let others = marked-bit scenes (markedScene scene used) k b (rw (length-marked-scene scene used) h) l in
     rw (listed-first (k * 8 + b) scene scenes)
     (cases (eqb scene (k * 8 + b))
-    (λ t. rw t (others ∙ ap (cond (isListed (k * 8 + b) scenes) 0) (marked-scene-own scene used k b h l (eqb-true scene (k * 8 + b) t)) ∙ zero-either (isListed (k * 8 + b) scenes)))
+    (λ t. rw t (others ∙ ap (cond (isListed (k * 8 + b) scenes) 0) (marked-scene-own scene used k b h l (eqb-true scene (k * 8 + b) t)) ∙ cond-same (isListed (k * 8 + b) scenes) 0))
     (λ f. rw f (others ∙ ap (cond (isListed (k * 8 + b) scenes) 0) (marked-scene-else scene used k b h l (eqb-false scene (k * 8 + b) f)))))

@@ -13,7 +13,8 @@ use borrow.Author.Tests.{eq-eqb, eqb-true}
 use Rattle.common.specs.Bits.{Bytes, bitAt}
 use Rattle.common.specs.Lists.{within}
 use Rattle.common.proofs.Laws.Bits.{bits-ext}
-use Rattle.common.proofs.Laws.Choice.{cases}
+use Rattle.common.proofs.Laws.Booleans.{or-true, or-false}
+use Rattle.common.proofs.Laws.Choice.{cond-same, cases}
 use Rattle.common.proofs.Laws.Lists.{split}
 use Rattle.common.proofs.Laws.Places.{within-yes}
 use Rattle.state.specs.declared.Planned.{Planned}
@@ -24,7 +25,7 @@ use Rattle.book.specs.Book.{isRead, usedPart, wantedPart, isListed}
 use Rattle.book.specs.Refusals.{bookRefusal, Opened}
 use Rattle.book.specs.Answers.{Marks}
 use Rattle.book.specs.Marking.{MarkFinished, MarkLost, BehindMark, BesideKept, AllMarked, OnlyListed, MarkedAgain}
-use Rattle.book.proofs.Laws.Marked.{zero-either, length-marked, marked-bytes, marked-bit}
+use Rattle.book.proofs.Laws.Marked.{length-marked, marked-bytes, marked-bit}
 use Rattle.book.proofs.Laws.Read.{read-is, used-length, used-at, used-bytes}
 use Rattle.book.proofs.Laws.Refusals.{opened-exactly, book-inside}
 
@@ -58,16 +59,8 @@ module _ (array : List ℕ) (sector : ℕ) (scenes : List ℕ) (fits : sector + 
 
 -- a bit that is 0, or one of a list's
 read-or-listed : (l : Bool) (x : ℕ) → eqb (cond l 0 x) 0 ≡ (eqb x 0 || l)
-read-or-listed true x = or-true (eqb x 0)
-  where
-    or-true : (t : Bool) → true ≡ (t || true)
-    or-true true = refl
-    or-true false = refl
-read-or-listed false x = or-false (eqb x 0)
-  where
-    or-false : (t : Bool) → t ≡ (t || false)
-    or-false true = refl
-    or-false false = refl
+read-or-listed true x = sym (or-true (eqb x 0))
+read-or-listed false x = sym (or-false (eqb x 0))
 
 -- ---- an accepted marking
 
@@ -148,7 +141,7 @@ module _ (wp : Bool) (chip : Device) (sector : ℕ) (scenes buffer after : List 
       unlisted-bit scene h e = ⊎-elim (λ q. q) (λ q. q ∙ rw e refl) (either scene h)
 
       read-bit : (scene : ℕ) → scene < 4096 → bit-of before scene ≡ 0 → bit-of (done .array) scene ≡ 0
-      read-bit scene h z = ⊎-elim (λ q. q ∙ z) (λ q. q ∙ ap (cond (isListed scene scenes) 0) z ∙ zero-either (isListed scene scenes)) (either scene h)
+      read-bit scene h z = ⊎-elim (λ q. q ∙ z) (λ q. q ∙ ap (cond (isListed scene scenes) 0) z ∙ cond-same (isListed scene scenes) 0) (either scene h)
 
       flag-by : (scene : ℕ) → bit-of (done .array) scene ≡ bit-of before scene → isRead (done .array) sector scene ≡ isRead before sector scene
       flag-by scene q = read-is (done .array) sector scene ∙ ap (λ (x : ℕ). eqb x 0) q ∙ sym (read-is before sector scene)

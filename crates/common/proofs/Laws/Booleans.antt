@@ -49,6 +49,14 @@ or-none-r false b e = e
 pub or-none-i : {a b : Bool} → a ≡ false → b ≡ false → a || b ≡ false
 or-none-i p q = rw (p, q) refl
 
+pub or-true : (a : Bool) → a || true ≡ true
+or-true true = refl
+or-true false = refl
+
+pub or-false : (a : Bool) → a || false ≡ a
+or-false true = refl
+or-false false = refl
+
 -- "not a, or b" is "a implies b"
 pub implies-elim : (a b : Bool) → not a || b ≡ true → a ≡ true → b ≡ true
 implies-elim true b e p = e

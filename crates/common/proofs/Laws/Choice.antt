@@ -8,6 +8,11 @@ pub cond-elim : {A : Type 0} (P : A → Type 0) (t : Bool) {a b : A} → (t ≡ 
 cond-elim P true f g = f refl
 cond-elim P false f g = g refl
 
+-- both arms are one
+pub cond-same : {A : Type 0} (t : Bool) (a : A) → cond t a a ≡ a
+cond-same true a = refl
+cond-same false a = refl
+
 -- a proof by cases on a test
 pub cases : {P : Type 0} (t : Bool) → (t ≡ true → P) → (t ≡ false → P) → P
 cases true f g = f refl

@@ -10,7 +10,7 @@ use lib.Dec.{ltb, eqb}
 use lib.ListN.{length}
 use borrow.Author.Tests.{lt-ltb, le-ltb, eq-eqb, ltb-true, ltb-false, eqb-true, not-false}
 use Rattle.common.specs.Refusals.{statusLocked, bufferTooShort, firstOf, Exactly}
-use Rattle.common.proofs.Laws.Booleans.{or-none-l, or-none-r}
+use Rattle.common.proofs.Laws.Booleans.{or-none-l, or-none-r, or-true}
 use Rattle.common.proofs.Laws.Lists.{split}
 use Rattle.common.proofs.Laws.Refusals.{Clear, clear, first-of-clear, Given, given-exactly, first-behind, first-before}
 use Rattle.script.specs.Record.{encode}
@@ -26,11 +26,7 @@ use Rattle.common.specs.Limits.{longestWanted}
 -- ---- refusal 6, without the sum
 
 pub region-out : (size start n : ℕ) → size < start → true ≡ (ltb longestWanted n || ltb size (start + n))
-region-out size start n h = rw (lt-ltb size (start + n) (omega arith)) (always (ltb longestWanted n))
-  where
-    always : (t : Bool) → true ≡ (t || true)
-    always true = refl
-    always false = refl
+region-out size start n h = rw (lt-ltb size (start + n) (omega arith)) (sym (or-true (ltb longestWanted n)))
 
 pub region-in : (size start n : ℕ) → start ≤ size → (ltb longestWanted n || ltb (size - start) n) ≡ (ltb longestWanted n || ltb size (start + n))
 region-in size start n h = ap (λ (t : Bool). ltb longestWanted n || t) (⊎-elim (λ l. above l) (λ l. below l) (split (size - start) n))

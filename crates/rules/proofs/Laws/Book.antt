@@ -12,6 +12,7 @@ use borrow.Author.Tests.{not-false, eq-eqb, ne-eqb, eqb-true, eqb-false, ltb-tru
 use Rattle.common.specs.Bits.{Bytes, bit}
 use Rattle.common.specs.Refusals.{Exactly}
 use Rattle.common.proofs.Laws.Bits.{bit-lt}
+use Rattle.common.proofs.Laws.Booleans.{or-true, or-false}
 use Rattle.common.proofs.Laws.Choice.{cases}
 use Rattle.common.proofs.Laws.Lists.{split}
 use Rattle.common.proofs.Laws.Places.{within-below, within-above, count-cong}
@@ -191,14 +192,6 @@ module _ (sector : ℕ) (scenes before after : List ℕ) where
         same-flag before after sector scene (all .flags scene h ∙ rw (not-listed scene scenes none) (or-false (isRead before sector scene)));
     beside = beside-of sector before after (all .beside);
   }
-    where
-      or-true : (t : Bool) → (t || true) ≡ true
-      or-true true = refl
-      or-true false = refl
-
-      or-false : (t : Bool) → (t || false) ≡ t
-      or-false true = refl
-      or-false false = refl
 
   book-cut : OnlyListed sector scenes before after → BookCut sector scenes before after
   book-cut only = record {
