@@ -3,7 +3,7 @@
 use mathlib.Core.Path.{_≡_, refl, sym, ap, _∙_}
 use mathlib.Core.Bool.{Bool, true, false, cond, _||_}
 use mathlib.Core.List.{List}
-use mathlib.Core.Logic.{_⊎_, inl, inr, ⊎-elim}
+use mathlib.Core.Logic.{inr, ⊎-elim}
 use Prim.Native.Nat.{ℕ, _+_, _-_, _*_, _/_, _%_, _≤_, _<_}
 use native.Mathlib.Omega.{arith}
 use lib.Dec.{eqb}
@@ -20,7 +20,7 @@ use Rattle.common.proofs.Laws.Places.{within-yes}
 use Rattle.state.specs.declared.Planned.{Planned}
 use Rattle.promises.specs.Promises.{Device, Plans, planRefusal, updated, Partway, ReadyToPlan, PlanAnswered, Promises}
 use Rattle.promises.proofs.Laws.Answered.{plan-answered}
-use Rattle.promises.proofs.Laws.Promises.{promises-kept, updated-at, updated-partway}
+use Rattle.promises.proofs.Laws.Promises.{promises-kept, unwanted-bit-stays, updated-at, updated-partway}
 use Rattle.book.specs.Book.{isRead, usedPart, wantedPart, isListed}
 use Rattle.book.specs.Refusals.{bookRefusal, Opened}
 use Rattle.book.specs.Answers.{Marks}
@@ -119,32 +119,32 @@ module _ (wp : Bool) (chip : Device) (sector : ℕ) (scenes buffer after : List 
   pub mark-finished : (done : Device) → MarkFinished wp chip sector scenes done → AllMarked sector scenes before (done .array)
   mark-finished done finished = all-marked (done .array) (kept .finished done finished)
 
-  -- run to its end or cut anywhere
+  -- a bit that is wanted as it was stays, run to the end or cut anywhere
+  bit-stays : (done : Device) → BehindMark wp chip sector scenes done → (k b : ℕ) → k < 512 → b < 8
+      → cond (isListed (k * 8 + b) scenes) 0 (bitAt (getD before (sector + k) 0) b) ≡ bitAt (getD before (sector + k) 0) b
+      → bitAt (getD (done .array) (sector + k) 0) b ≡ bitAt (getD before (sector + k) 0) b
+  bit-stays done behind k b h l same =
+      let here : sector + k - sector ≡ k = omega arith in
+      unwanted-bit-stays kept done behind (sector + k) b (λ _. rw here (wanted-bit before sector scenes inside k b h l ∙ same))
+
   pub mark-behind : (done : Device) → BehindMark wp chip sector scenes done → OnlyListed sector scenes before (done .array)
   mark-behind done behind = record {
-    unlisted = λ scene h e. flag-by scene (unlisted-bit scene h e);
-    stays-read = λ scene h e. read-is (done .array) sector scene ∙ eq-eqb _ 0 (read-bit scene h (eqb-true _ 0 (sym (read-is before sector scene) ∙ e)));
+    unlisted = λ scene h e.
+        read-is (done .array) sector scene ∙ ap (λ (x : ℕ). eqb x 0) (stays scene h (rw e refl)) ∙ sym (read-is before sector scene);
+    stays-read = λ scene h e.
+        let z = eqb-true (flag before scene) 0 (sym (read-is before sector scene) ∙ e) in
+        read-is (done .array) sector scene
+        ∙ eq-eqb (flag (done .array) scene) 0 (stays scene h (ap (cond (isListed scene scenes) 0) z ∙ cond-same (isListed scene scenes) 0 ∙ sym z) ∙ z);
     beside = beside-of (done .array) (kept .partway done behind);
   }
     where
-      bit-of : List ℕ → ℕ → ℕ
-      bit-of l scene = bitAt (getD l (sector + scene / 8) 0) (scene % 8)
+      flag : List ℕ → ℕ → ℕ
+      flag array scene = bitAt (getD array (sector + scene / 8) 0) (scene % 8)
 
-      -- as before or as wanted
-      either : (scene : ℕ) → scene < 4096 → (bit-of (done .array) scene ≡ bit-of before scene) ⊎ (bit-of (done .array) scene ≡ cond (isListed scene scenes) 0 (bit-of before scene))
-      either scene h =
-          let here : sector + scene / 8 - sector ≡ scene / 8 = omega arith in
-          ⊎-elim (λ e. inl e) (λ e. inr (rw here at e ∙ wanted-flag before sector scenes inside scene h))
-          (kept .partway done behind .region (sector + scene / 8) (scene % 8) (in-book before sector scenes inside (scene / 8) (omega arith)))
-
-      unlisted-bit : (scene : ℕ) → scene < 4096 → isListed scene scenes ≡ false → bit-of (done .array) scene ≡ bit-of before scene
-      unlisted-bit scene h e = ⊎-elim (λ q. q) (λ q. q ∙ rw e refl) (either scene h)
-
-      read-bit : (scene : ℕ) → scene < 4096 → bit-of before scene ≡ 0 → bit-of (done .array) scene ≡ 0
-      read-bit scene h z = ⊎-elim (λ q. q ∙ z) (λ q. q ∙ ap (cond (isListed scene scenes) 0) z ∙ cond-same (isListed scene scenes) 0) (either scene h)
-
-      flag-by : (scene : ℕ) → bit-of (done .array) scene ≡ bit-of before scene → isRead (done .array) sector scene ≡ isRead before sector scene
-      flag-by scene q = read-is (done .array) sector scene ∙ ap (λ (x : ℕ). eqb x 0) q ∙ sym (read-is before sector scene)
+      stays : (scene : ℕ) → scene < 4096 → cond (isListed scene scenes) 0 (flag before scene) ≡ flag before scene → flag (done .array) scene ≡ flag before scene
+      stays scene h same =
+          let is : scene / 8 * 8 + scene % 8 ≡ scene = omega arith in
+          bit-stays done behind (scene / 8) (scene % 8) (omega arith) (omega arith) (rw is same)
 
   -- planned again behind a cut
   pub mark-again : (cut : Device) → MarkLost wp chip sector scenes cut → MarkedAgain wp chip sector scenes (length buffer) cut
@@ -168,11 +168,7 @@ module _ (wp : Bool) (chip : Device) (sector : ℕ) (scenes buffer after : List 
       -- a bit of either image is 0 where its scene is listed; where it is not, the cut has left it
       same-bit : (k b : ℕ) → k < 512 → b < 8
           → cond (isListed (k * 8 + b) scenes) 0 (bitAt (getD (cut .array) (sector + k) 0) b) ≡ cond (isListed (k * 8 + b) scenes) 0 (bitAt (getD before (sector + k) 0) b)
-      same-bit k b h l =
-          let here : sector + k - sector ≡ k = omega arith in
-          cases (isListed (k * 8 + b) scenes) (λ t. rw t refl)
-          (λ f. rw f (⊎-elim (λ q. q) (λ q. rw here at q ∙ wanted-bit before sector scenes inside k b h l ∙ rw f refl)
-          (kept .partway cut (inr lost) .region (sector + k) b (in-book before sector scenes inside k h))))
+      same-bit k b h l = cases (isListed (k * 8 + b) scenes) (λ t. rw t refl) (λ f. rw f (bit-stays cut (inr lost) k b h l (rw f refl)))
 
       same-wanted : wantedPart (cut .array) sector scenes ≡ want
       same-wanted =
