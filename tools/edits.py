@@ -31,7 +31,8 @@ def first_error(crate, name):
     except OSError:
         return None
     place = r'(?:^|/)(?:proofs|src|specs)/(\S+?):\d+:\d+: '
-    m = re.search(place + r'error: (.*)', log) or re.search(place + r'(?!note)(.*)', log)
+    # "was not admitted" only repeats another error; with nothing else the function at fault has no proof file, and a note names it
+    m = re.search(place + r'error: (?!.*was not admitted)(.*)', log) or re.search(place + r'(it is not proved .*)', log) or re.search(place + r'(?!note)(.*)', log)
     if not m:
         return None
     file, text = m.groups()
@@ -46,7 +47,7 @@ def first_error(crate, name):
         why = wall
     elif text.startswith('`omega`'):
         why = 'arithmetic: the goal does not follow'
-    elif 'no proof of' in text:
+    elif 'no proof of' in text or text.startswith('it is not proved'):
         why = 'no proof is found'
     elif pair:
         why = f'`{pair.group(1)}` expected, `{pair.group(2)}` found'

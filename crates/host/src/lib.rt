@@ -3,6 +3,7 @@ mod reader;
 
 use reader::Record;
 use run::Ran;
+use salvage::Salvaged;
 use script::survey::Surveyed;
 use state::Answer;
 use state::Planned;
@@ -17,6 +18,7 @@ ghost use Rattle.plan.specs.Update.{PlanUpdated};
 ghost use Rattle.script.specs.Survey.{surveyOf};
 ghost use Rattle.run.specs.Script.{ScriptRun};
 ghost use Rattle.book.specs.Answers.{isReadTold, countTold, Marks};
+ghost use Rattle.salvage.specs.Answers.{Salvages};
 ghost use Rattle.host.specs.Read.{ReadAnswered};
 
 // Make a new chip.
@@ -152,4 +154,12 @@ pub extern "C" fn zeradok_book_mark(
     ensures { λ r. ⌜ Marks chip «wp_high» (now (array .entry)) sector (now (scenes .entry)) (now (buffer .entry)) (now (buffer .exit)) r ⌝ }
 {
     book::mark(chip, wp_high, array, sector, scenes, buffer)
+}
+
+// Salvage a sick name sector: no chip and no state, since an image is all that it looks at.
+#[no_mangle]
+pub extern "C" fn zeradok_salvage(sector: &[u8], kept: &mut [u8], dropped: &mut [u8]) -> Salvaged
+    ensures { λ r. ⌜ Salvages (now (sector .entry)) (now (kept .entry)) (now (dropped .entry)) (now (kept .exit)) (now (dropped .exit)) r ⌝ }
+{
+    salvage::salvage(sector, kept, dropped)
 }

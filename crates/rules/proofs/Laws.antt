@@ -38,4 +38,5 @@ mod Erases
 pub mod Unread
 pub mod Worst
 pub mod Book
+pub mod Salvage
 pub mod Demands

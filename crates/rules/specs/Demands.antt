@@ -29,6 +29,8 @@ use Rattle.plan.specs.Update.{PlanUpdated}
 use Rattle.powercut.specs.PowerCut.{updated, Partway}
 use Rattle.samples.specs.Session.{Holds}
 use Rattle.samples.specs.Table.{sessions}
+use Rattle.salvage.specs.declared.Salvaged.{Salvaged}
+use Rattle.salvage.specs.Answers.{Salvages}
 use Rattle.host.specs.declared.reader.Record.{Record}
 use Rattle.host.specs.Read.{ReadAnswered}
 use Rattle.rules.specs.State.{Setters}
@@ -57,6 +59,7 @@ use Rattle.rules.specs.Driver.{SentTo, CutAt}
 use Rattle.rules.specs.Unread.{UnreadRules}
 use Rattle.rules.specs.Worst.{WorstRules}
 use Rattle.rules.specs.Book.{BookRules}
+use Rattle.rules.specs.Salvage.{SalvageRules}
 
 -- ---- demand 1
 
@@ -90,6 +93,9 @@ pub record EveryCallAnswers : Type 0 where
   pub book-count : (s : State) (array : List ℕ) (sector : ℕ) → One (λ (r : Told). r ≡ countTold s array sector)
   pub book-mark : (s : State) (wp : Bool) (array : List ℕ) (sector : ℕ) (scenes buffer : List ℕ)
       → One (λ (a : Planned × List ℕ). Marks s wp array sector scenes buffer (a .1) (a .0))
+  -- a salvaged sector: number and lengths; what is kept, and the list
+  pub salvage : (sector kept dropped : List ℕ)
+      → One (λ (a : Salvaged × (List ℕ × List ℕ)). Salvages sector kept dropped (a .1 .0) (a .1 .1) (a .0))
   -- the record at an offset, and the frame as that part of the script
   pub read : (script : List ℕ) (offset : ℕ) → One (λ (r : Record). ReadAnswered script offset r)
   pub read-part : (script : List ℕ) (offset : ℕ) → One (λ (part : List ℕ). part ≡ framePart script offset)
@@ -199,3 +205,5 @@ pub record Demands : Type 0 where
   pub worst : WorstRules
   -- (A2) "The game's own flag book."
   pub book : BookRules
+  -- (A9) "Salvage a sick name sector."
+  pub salvage : SalvageRules

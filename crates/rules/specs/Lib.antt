@@ -24,4 +24,5 @@ pub mod Driver
 pub mod Unread
 pub mod Worst
 pub mod Book
+pub mod Salvage
 pub mod Demands

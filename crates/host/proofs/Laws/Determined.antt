@@ -24,6 +24,9 @@ use Rattle.plan.proofs.Laws.Update.{plan-update-determined}
 use Rattle.state.specs.declared.Told.{Told}
 use Rattle.book.specs.Answers.{isReadTold, countTold, Marks}
 use Rattle.book.proofs.Laws.Answers.{is-read-determined, count-determined, marks-determined}
+use Rattle.salvage.specs.declared.Salvaged.{Salvaged}
+use Rattle.salvage.specs.Answers.{Salvages}
+use Rattle.salvage.proofs.Laws.Answers.{salvage-determined}
 use Rattle.host.specs.Read.{ReadAnswered}
 use Rattle.host.specs.declared.reader.Record.{Record}
 
@@ -66,6 +69,12 @@ zeradok-book-count-determined = count-determined
 pub zeradok-book-mark-determined : (chip : State) (wp : Bool) (array : List ℕ) (sector : ℕ) (scenes buffer after after′ : List ℕ) (a b : Planned)
     → Marks chip wp array sector scenes buffer after a → Marks chip wp array sector scenes buffer after′ b → (a ≡ b) × (after ≡ after′)
 zeradok-book-mark-determined = marks-determined
+
+-- salvaging: what it answers, what is kept and the list
+pub zeradok-salvage-determined : (sector kept dropped kept₁ kept₂ dropped₁ dropped₂ : List ℕ) (a b : Salvaged)
+    → Salvages sector kept dropped kept₁ dropped₁ a → Salvages sector kept dropped kept₂ dropped₂ b
+    → (a ≡ b) × ((kept₁ ≡ kept₂) × (dropped₁ ≡ dropped₂))
+zeradok-salvage-determined = salvage-determined
 
 -- the two calls on a lent state: the number returned, the chip left and the output
 module _ (wp : Bool) (f : List ℕ) (d : Device) (output : List ℕ) (number number′ : ℕ) (after after′ : Device) (out out′ : List ℕ) where

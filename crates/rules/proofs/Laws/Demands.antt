@@ -7,6 +7,7 @@ use mathlib.Core.Logic.{⊎-elim}
 use Prim.Native.Nat.{ℕ}
 use native.Mathlib.Omega.{arith}
 use lib.ListN.{length}
+use Rattle.common.specs.Buffer.{written}
 use Rattle.common.proofs.Laws.Lists.{split}
 use Rattle.chip.specs.declared.Chip.{Chip}
 use Rattle.state.specs.declared.State.{State}
@@ -36,6 +37,11 @@ use Rattle.book.specs.Book.{wantedPart}
 use Rattle.book.specs.Refusals.{bookRefusal}
 use Rattle.book.specs.Answers.{isReadTold, countTold, Marks}
 use Rattle.book.proofs.Laws.Answers.{marks-refused, marks-planned, marks-determined}
+use Rattle.names.specs.Records.{padded}
+use Rattle.salvage.specs.declared.Salvaged.{Salvaged}
+use Rattle.salvage.specs.Pieces.{keptBytes, droppedBytes}
+use Rattle.salvage.specs.Answers.{salvageRefusal, refusedSalvage, salvagedOf, Salvages}
+use Rattle.salvage.proofs.Laws.Answers.{salvages-refused, salvages-given, salvage-determined}
 use Rattle.host.specs.declared.reader.Record.{Record}
 use Rattle.host.specs.Read.{recordOf, ReadAnswered}
 use Rattle.host.proofs.Laws.Determined.{zeradok-read-determined}
@@ -72,6 +78,7 @@ use Rattle.rules.proofs.Laws.Driver.{no-cut-hurts}
 use Rattle.rules.proofs.Laws.Unread.{unread-rules}
 use Rattle.rules.proofs.Laws.Worst.{worst-rules}
 use Rattle.rules.proofs.Laws.Book.{book-rules}
+use Rattle.rules.proofs.Laws.Salvage.{salvage-rules}
 
 -- ---- demand 1
 
@@ -161,6 +168,22 @@ mark-answers s wp array sector scenes buffer =
       only = λ other p i. let e = marks-determined s wp array sector scenes buffer _ _ _ _ p made in (e .0 i, e .1 i);
     }
 
+-- its refusal, or both buffers
+salvage-answers : (sector kept dropped : List ℕ) → One (λ (a : Salvaged × (List ℕ × List ℕ)). Salvages sector kept dropped (a .1 .0) (a .1 .1) (a .0))
+salvage-answers sector kept dropped =
+    let number : ℕ = salvageRefusal sector kept dropped in
+    ⊎-elim (λ h. only-one (refusedSalvage number) kept dropped (salvages-refused sector kept dropped number h refl))
+    (λ h. only-one (salvagedOf sector) (padded (keptBytes sector)) (written 0 (droppedBytes sector) dropped) (salvages-given sector kept dropped (omega arith)))
+    (split 0 number)
+  where
+    only-one : (r : Salvaged) (keptAfter droppedAfter : List ℕ) → Salvages sector kept dropped keptAfter droppedAfter r
+        → One (λ (a : Salvaged × (List ℕ × List ℕ)). Salvages sector kept dropped (a .1 .0) (a .1 .1) (a .0))
+    only-one r keptAfter droppedAfter made = record {
+      answer = (r, (keptAfter, droppedAfter));
+      given = made;
+      only = λ other p. triple (salvage-determined sector kept dropped _ _ _ _ _ _ p made);
+    }
+
 read-answers : (script : List ℕ) (offset : ℕ) → One (λ (r : Record). ReadAnswered script offset r)
 read-answers script offset =
     let found = record-at-answered script offset refl in
@@ -188,6 +211,7 @@ answers = record {
   book-is-read = λ s array sector scene. named (isReadTold s array sector scene);
   book-count = λ s array sector. named (countTold s array sector);
   book-mark = mark-answers;
+  salvage = salvage-answers;
   read = read-answers;
   read-part = λ script offset. named (framePart script offset);
 }
@@ -259,4 +283,5 @@ demands-met = record {
   unread = unread-rules;
   worst = worst-rules;
   book = book-rules;
+  salvage = salvage-rules;
 }

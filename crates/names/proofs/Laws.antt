@@ -1,0 +1,4 @@
+pub mod Front
+pub mod Names
+pub mod Padded
+pub mod Reader

@@ -1,0 +1,9 @@
+pub mod Pieces
+pub mod Used
+pub mod Apart
+pub mod Kept
+pub mod Walk
+pub mod Answers
+pub mod Divided
+pub mod Again
+pub mod Witness

@@ -1,0 +1,126 @@
+-- What a reader of names finds in the salvaged sector: every kept name, and so every name that it found before. Salvaged again, it comes back as it is.
+-- Assumes nothing.
+use mathlib.Core.Path.{_≡_, refl, sym, ap, _∙_}
+use mathlib.Core.Bool.{true}
+use mathlib.Core.List.{List, [], _∷_, _++_}
+use mathlib.Core.Logic.{⊎-elim}
+use Prim.Native.Nat.{ℕ, _+_, _-_, _<_}
+use native.Mathlib.Omega.{arith}
+use lib.ListN.{length, getD, replicate, length-append, length-replicate, getD-replicate}
+use lib.Seq.{take-append-seam}
+use Rattle.common.proofs.Laws.Lists.{split}
+use Rattle.names.specs.Records.{AllNames, namesOf, Begins, recordBytes, recordsBytes, padded}
+use Rattle.names.proofs.Laws.Front.{front-nil, front-record}
+use Rattle.names.proofs.Laws.Names.{names-none, names-item}
+use Rattle.names.proofs.Laws.Padded.{getD-front, getD-behind, record-below, names-erased-behind, padded-reads-back}
+use Rattle.salvage.specs.Pieces.{Piece, kept, piecesIn, usedLength, usedPart, piecesOf, keptNames, keptBytes, stretchesFrom, listBytes, droppedBytes}
+use Rattle.salvage.proofs.Laws.Pieces.{pieces-nil, pieces-item, pieces-by}
+use Rattle.salvage.proofs.Laws.Used.{Used, used-exactly, used-split}
+use Rattle.salvage.proofs.Laws.Kept.{kept-good}
+
+-- ---- a reader finds every kept name
+
+pub salvaged-reads-back : (image : List ℕ) → namesOf (padded (keptBytes image)) ≡ keptNames (piecesOf image)
+unfolding keptBytes piecesOf
+salvaged-reads-back image = padded-reads-back (keptNames (piecesIn (usedPart image))) (kept-good (usedPart image))
+
+-- ---- those it found before come first
+
+walk-begins : (bytes : List ℕ) → Begins (namesOf bytes) (keptNames (piecesIn bytes))
+unfolding keptNames
+walk-begins =
+    pieces-by (λ bytes pieces. Begins (namesOf bytes) (keptNames pieces)) record { more = []; all-are = sym (ap (λ (l : List (List ℕ)). l ++ []) (names-none [] front-nil)) }
+    (λ x bytes nothing behind. rw (names-none (x ∷ bytes) nothing) record { more = _; all-are = refl })
+    (λ bytes name rest is behind.
+    rw (names-item bytes is) record { more = behind .more; all-are = ap (λ (l : List (List ℕ)). name ∷ l) (behind .all-are) })
+
+begins-erased : (image used : List ℕ) (m : ℕ) → image ≡ used ++ replicate m 0xff → Begins (namesOf image) (keptNames (piecesIn used))
+begins-erased image used m e = rw (e, names-erased-behind used m) (walk-begins used)
+
+-- "A damaged mark cost a player everything behind it": salvaging costs no name
+pub names-survive : (image : List ℕ) → Begins (namesOf image) (keptNames (piecesOf image))
+unfolding piecesOf
+names-survive image = begins-erased image (usedPart image) (length image - usedLength image) (used-split image)
+
+-- ---- a sector of good records and FF
+
+-- a record each
+abbrev pub allKept : List (List ℕ) → List Piece
+allKept [] = []
+allKept (name ∷ names) = kept name ∷ allKept names
+
+pieces-records : (names : List (List ℕ)) → AllNames names → piecesIn (recordsBytes true names) ≡ allKept names
+unfolding recordsBytes
+pieces-records [] good = pieces-nil
+pieces-records (name ∷ names) good =
+    pieces-item (recordBytes true name ++ recordsBytes true names) (front-record name (recordsBytes true names) (good .0))
+    ∙ ap (λ (l : List Piece). kept name ∷ l) (pieces-records names (good .1))
+
+all-kept-names : (names : List (List ℕ)) → keptNames (allKept names) ≡ names
+unfolding keptNames
+all-kept-names [] = refl
+all-kept-names (name ∷ names) = ap (λ (l : List (List ℕ)). name ∷ l) (all-kept-names names)
+
+all-kept-list : (at : ℕ) (names : List (List ℕ)) → listBytes (stretchesFrom at (allKept names)) ≡ []
+unfolding stretchesFrom listBytes
+all-kept-list at [] = refl
+all-kept-list at (name ∷ names) = all-kept-list (at + (3 + length name)) names
+
+-- none of its records' bytes is FF
+records-below : (names : List (List ℕ)) (i : ℕ) → AllNames names → i < length (recordsBytes true names) → getD (recordsBytes true names) i 0 < 0xff
+unfolding recordsBytes
+records-below [] i good h = absurd (omega arith)
+records-below (name ∷ names) i good h =
+    let record-is : List ℕ = recordBytes true name in
+    let rest : List ℕ = recordsBytes true names in
+    ⊎-elim
+    (λ first. rw (getD-front record-is rest i (omega arith)) (record-below name i (good .0) (omega arith)))
+    (λ later. rw (getD-behind record-is rest i (omega arith)) (records-below names (i - length record-is) (good .1) (omega (arith, h, length-append record-is rest))))
+    (split i (3 + length name))
+
+-- so they are what is used
+module _ (names : List (List ℕ)) (good : AllNames names) (m : ℕ) where
+  abbrev bytes : List ℕ
+  bytes = recordsBytes true names
+
+  records-used : Used (bytes ++ replicate m 0xff) (length bytes)
+  records-used = record {
+    inside = omega (arith, length-append bytes (replicate m 0xff));
+    erased = λ k from below.
+        getD-behind bytes (replicate m 0xff) k from
+        ∙ getD-replicate m (k - length bytes) 0xff 0 (omega (arith, below, length-append bytes (replicate m 0xff), length-replicate {A = ℕ} m 0xff));
+    last = λ k e q.
+        omega (arith, records-below names k good (omega arith), sym (getD-front bytes (replicate m 0xff) k (omega arith)) ∙ q);
+  }
+
+  clean-pieces : piecesOf (bytes ++ replicate m 0xff) ≡ allKept names
+  unfolding piecesOf usedPart
+  clean-pieces =
+      rw (sym (used-exactly (bytes ++ replicate m 0xff) (length bytes) records-used), take-append-seam bytes (replicate m 0xff)) (pieces-records names good)
+
+-- it comes back as it is, with nothing dropped
+module _ (names : List (List ℕ)) (good : AllNames names) where
+  abbrev clean : List ℕ
+  clean = padded (recordsBytes true names)
+
+  clean-walk : piecesOf clean ≡ allKept names
+  unfolding padded
+  clean-walk = clean-pieces names good (4096 - length (recordsBytes true names))
+
+  pub clean-kept : keptBytes clean ≡ recordsBytes true names
+  unfolding keptBytes
+  clean-kept = rw (clean-walk, all-kept-names names) refl
+
+  pub clean-dropped : droppedBytes clean ≡ []
+  unfolding droppedBytes
+  clean-dropped = rw clean-walk (all-kept-list 0 names)
+
+-- a salvaged sector is such a one
+module _ (image : List ℕ) where
+  pub again-kept : keptBytes (padded (keptBytes image)) ≡ keptBytes image
+  unfolding keptBytes piecesOf
+  again-kept = clean-kept (keptNames (piecesIn (usedPart image))) (kept-good (usedPart image))
+
+  pub again-dropped : droppedBytes (padded (keptBytes image)) ≡ []
+  unfolding keptBytes piecesOf
+  again-dropped = clean-dropped (keptNames (piecesIn (usedPart image))) (kept-good (usedPart image))
