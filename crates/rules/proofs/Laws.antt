@@ -38,5 +38,6 @@ mod Erases
 pub mod Unread
 pub mod Worst
 pub mod Book
+pub mod Salvaged
 pub mod Salvage
 pub mod Demands

@@ -3,8 +3,9 @@ use mathlib.Core.Path.{_≡_}
 use mathlib.Core.List.{List, [], _∷_, _++_}
 use mathlib.Core.Logic.{_⊎_}
 use Prim.Native.Nat.{ℕ, _+_, _-_, _≤_, _<_}
+use lib.Dec.{ltb}
 use lib.ListN.{length, getD, take, drop, replicate}
-use Rattle.common.specs.Bits.{bit}
+use Rattle.common.specs.Bits.{Bytes, bit}
 use Rattle.common.specs.Lists.{within, Each}
 use Rattle.common.specs.Numbers.{twoBytes}
 use Rattle.names.specs.Records.{namesOf, Begins}
@@ -73,9 +74,10 @@ pub record SectorSalvaged (sector kept : List ℕ) (size : ℕ) (list : List ℕ
   pub rising : Rising 1 stretches
   pub none-empty : Each (λ s. 0 < s .count) stretches
   pub listed : Listed list stretches
-  -- "Kept and dropped and the final erased stretch cover the sector once each;
-  pub covered : (k : ℕ) → k < 4096 → holders k records + holders k stretches + bit (within used (4096 - used) k) 1 ≡ 1
-  -- all trailing FF are that stretch."
+  -- "Kept and dropped and the final erased stretch cover the sector once each", and no place outside it;
+  pub covered : (k : ℕ) → holders k records + holders k stretches + bit (within used (4096 - used) k) 1 ≡ bit (ltb k 4096) 1
+  -- "all trailing FF are that stretch."
+  pub inside : used ≤ 4096
   pub trailing : (k : ℕ) → used ≤ k → k < 4096 → getD sector k 0 ≡ 0xff
   pub no-more : (k : ℕ) → k + 1 ≡ used → getD sector k 0 ≡ 0xff → ⊥
 
@@ -94,10 +96,15 @@ pub record SalvageCall (sector kept dropped keptAfter droppedAfter : List ℕ) (
   pub rest-untouched : r .number ≡ 0 → (length droppedAfter ≡ length dropped) × (drop (r .length) droppedAfter ≡ drop (r .length) dropped)
   -- there are 820 stretches at most, so 3,280 bytes are never too few
   pub room-enough : 3280 ≤ length dropped → r .number ≡ 10 → ⊥
+  -- where nothing is dropped the sector comes back as it is
+  pub unhurt : r .number ≡ 0 → r .length ≡ 0 → keptAfter ≡ sector
   -- "A damaged mark cost a player everything behind it": every name that a reader found is found again, before any other
   pub names-kept : r .number ≡ 0 → Begins (namesOf sector) (namesOf keptAfter)
 
 pub record SalvageRules : Type 0 where
+  -- what is said of a salvaged sector fixes each byte of what is kept and of the list
+  pub only : (sector kept kept₂ list list₂ : List ℕ) (size size₂ : ℕ) → length sector ≡ 4096 → Bytes list → Bytes list₂
+      → SectorSalvaged sector kept size list → SectorSalvaged sector kept₂ size₂ list₂ → (kept ≡ kept₂) × ((size ≡ size₂) × (list ≡ list₂))
   pub call : (sector kept dropped keptAfter droppedAfter : List ℕ) (r : Salvaged) → Salvages sector kept dropped keptAfter droppedAfter r
       → SalvageCall sector kept dropped keptAfter droppedAfter r
   -- salvaged again, a sector comes back as it is, and nothing is dropped

@@ -9,7 +9,7 @@ use native.Mathlib.Omega.{arith}
 use lib.Dec.{eqb, leb}
 use lib.ListN.{length, getD, take, drop, length-append, length-drop, length-take, take-append-drop}
 use lib.Seq.{getD-take, getD-drop, drop-cons, take-append-seam, drop-append-seam, length-take-le}
-use borrow.Author.Tests.{le-leb, leb-true, lt-ltb}
+use borrow.Author.Tests.{le-leb, leb-true}
 use Rattle.common.specs.Bits.{bit}
 use Rattle.common.specs.Buffer.{written}
 use Rattle.common.specs.Lists.{within, Each}
@@ -24,11 +24,12 @@ use Rattle.salvage.specs.Divided.{holding, EachPiece, Right, Behind, Apart}
 use Rattle.salvage.specs.Answers.{salvageRefusals, salvageRefusal, salvagedOf, Salvages}
 use Rattle.salvage.proofs.Laws.Divided.{divided}
 use Rattle.salvage.proofs.Laws.Answers.{refusal-of, never-10, opened, number-is}
-use Rattle.salvage.proofs.Laws.Again.{salvaged-reads-back, names-survive, again-kept, again-dropped}
+use Rattle.salvage.proofs.Laws.Again.{salvaged-reads-back, names-survive, again-kept, again-dropped, unhurt-same}
 use Rattle.rules.specs.Numbered.{_when_}
 use Rattle.rules.specs.Salvage.{GoodRecord, holders, BeginsFrom, Rising, bytesOf, Listed, SectorSalvaged, SalvageCall, SalvageRules}
 use Rattle.rules.proofs.Laws.Tests.{means-equal, means-less, means-not, means-or}
 use Rattle.rules.proofs.Laws.Numbered.{row, numbered}
+use Rattle.rules.proofs.Laws.Salvaged.{salvaged-only}
 
 -- ---- a record by its places
 
@@ -193,9 +194,9 @@ salvaged sector sized =
       rising = stretches-rise (stretchesFrom 0 pieces) (d .stretches-apart);
       none-empty = stretches-some (stretchesFrom 0 pieces) (d .stretches-apart);
       listed = list-says (stretchesFrom 0 pieces);
-      covered = λ k below.
-          ap (λ (n : ℕ). n + bit (within (usedLength sector) (4096 - usedLength sector) k) 1) (held k 0 pieces)
-          ∙ rw sized at (d .covered-once k) ∙ rw (lt-ltb k 4096 below) refl;
+      covered = λ k.
+          ap (λ (n : ℕ). n + bit (within (usedLength sector) (4096 - usedLength sector) k) 1) (held k 0 pieces) ∙ rw sized at (d .covered-once k);
+      inside = omega (arith, d .inside, sized);
       trailing = λ k from below. d .tail-erased k from (omega arith);
       no-more = λ k e q. d .before-tail k (omega arith) q;
     }
@@ -243,11 +244,14 @@ module _ (sector kept₀ dropped₀ keptAfter droppedAfter : List ℕ) (r : Salv
     length-is = listed-length;
     rest-untouched = rest-untouched;
     room-enough = λ room e. never-10 sector kept₀ dropped₀ room (sym number ∙ e);
+    unhurt = λ done none.
+        is done .1 .0 ∙ unhurt-same sector (opened sector kept₀ dropped₀ (sym number ∙ done) .sectors-sized) (sym (listed-length done) ∙ none);
     names-kept = λ done. rw (is done .1 .0, salvaged-reads-back sector) (names-survive sector);
   }
 
 pub salvage-rules : SalvageRules
 salvage-rules = record {
+  only = λ sector kept₀ kept₁ list list₁ size size₁ sized. salvaged-only sector sized kept₀ kept₁ list list₁ size size₁;
   call = salvage-call;
   again = λ sector kept₀ dropped₀ keptAfter droppedAfter r s done kept₂ dropped₂ keptAfter₂ droppedAfter₂ r₂ s₂ done₂.
       let first : keptAfter ≡ padded (keptBytes sector) = is sector kept₀ dropped₀ keptAfter droppedAfter r s done .1 .0 in

@@ -10,12 +10,12 @@ use lib.ListN.{length, getD, replicate, length-append, length-replicate, getD-re
 use lib.Seq.{take-append-seam}
 use Rattle.common.proofs.Laws.Lists.{split}
 use Rattle.names.specs.Records.{AllNames, namesOf, Begins, recordBytes, recordsBytes, padded}
-use Rattle.names.proofs.Laws.Front.{front-nil, front-record}
+use Rattle.names.proofs.Laws.Front.{front-nil, front-record, front-item}
 use Rattle.names.proofs.Laws.Names.{names-none, names-item}
 use Rattle.names.proofs.Laws.Padded.{getD-front, getD-behind, record-below, names-erased-behind, padded-reads-back}
-use Rattle.salvage.specs.Pieces.{Piece, kept, piecesIn, usedLength, usedPart, piecesOf, keptNames, keptBytes, stretchesFrom, listBytes, droppedBytes}
+use Rattle.salvage.specs.Pieces.{Piece, kept, dropped, dropByte, piecesIn, usedLength, usedPart, piecesOf, keptNames, keptBytes, stretchesFrom, listBytes, droppedBytes}
 use Rattle.salvage.proofs.Laws.Pieces.{pieces-nil, pieces-item, pieces-by}
-use Rattle.salvage.proofs.Laws.Used.{Used, used-exactly, used-split}
+use Rattle.salvage.proofs.Laws.Used.{Used, used-exactly, used-part-length, used-split}
 use Rattle.salvage.proofs.Laws.Kept.{kept-good}
 
 -- ---- a reader finds every kept name
@@ -124,3 +124,38 @@ module _ (image : List ℕ) where
   pub again-dropped : droppedBytes (padded (keptBytes image)) ≡ []
   unfolding keptBytes piecesOf
   again-dropped = clean-dropped (keptNames (piecesIn (usedPart image))) (kept-good (usedPart image))
+
+-- ---- a sector of which nothing is dropped
+
+-- no piece is a stretch
+abbrev Unhurt : List Piece → Type 0
+Unhurt [] = Unit {0}
+Unhurt (kept name ∷ pieces) = Unhurt pieces
+Unhurt (dropped n ∷ pieces) = ⊥
+
+unhurt-list : (at : ℕ) (pieces : List Piece) → length (listBytes (stretchesFrom at pieces)) ≡ 0 → Unhurt pieces
+unfolding stretchesFrom listBytes
+unhurt-list at [] e = tt
+unhurt-list at (kept name ∷ pieces) e = unhurt-list (at + (3 + length name)) pieces e
+unhurt-list at (dropped n ∷ pieces) e = omega (arith, e)
+
+unhurt-byte : (pieces : List Piece) → Unhurt (dropByte pieces) → ⊥
+unhurt-byte [] u = u
+unhurt-byte (kept name ∷ pieces) u = u
+unhurt-byte (dropped n ∷ pieces) u = u
+
+unhurt-bytes : (bytes : List ℕ) → Unhurt (piecesIn bytes) → recordsBytes true (keptNames (piecesIn bytes)) ≡ bytes
+unfolding keptNames recordsBytes
+unhurt-bytes =
+    pieces-by (λ bytes pieces. Unhurt pieces → recordsBytes true (keptNames pieces) ≡ bytes) (λ u. refl)
+    (λ x bytes nothing behind u. absurd (unhurt-byte (piecesIn bytes) u))
+    (λ bytes name rest is behind u. ap (λ (l : List ℕ). recordBytes true name ++ l) (behind u) ∙ sym (front-item bytes is .is))
+
+-- it comes back as it is
+pub unhurt-same : (image : List ℕ) → length image ≡ 4096 → length (droppedBytes image) ≡ 0 → padded (keptBytes image) ≡ image
+unfolding droppedBytes keptBytes piecesOf padded
+unhurt-same image sized e =
+    let used = unhurt-bytes (usedPart image) (unhurt-list 0 (piecesIn (usedPart image)) e) in
+    let erased : 4096 - length (usedPart image) ≡ length image - usedLength image = omega (arith, used-part-length image, sized) in
+    ap (λ (l : List ℕ). l ++ replicate (4096 - length l) 0xff) used
+    ∙ ap (λ (n : ℕ). usedPart image ++ replicate n 0xff) erased ∙ sym (used-split image)
