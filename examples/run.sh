@@ -1,7 +1,8 @@
 #!/usr/bin/env bash
-# Builds the static library, then over it the save in C, in C++ and in Rust and the flag book in C and in C++. Each has to tell what
-# save.txt or book.txt says. The save is run twice on an image of its own, first without one, then on what it wrote, and has to leave
-# the chip erased but for scenes 9 to 20. The last line counts the five, and the exit is non-zero where one fails.
+# Builds the static library, then over it the save in C, in C++ and in Rust and the flag book and the salvage in C and in C++. Each has
+# to tell what save.txt, book.txt or salvage.txt says. The save is run twice on an image of its own, first without one, then on what it
+# wrote, and has to leave the chip erased but for scenes 9 to 20. The last line counts the seven, and the exit is non-zero where one
+# fails.
 set -uo pipefail
 cd "$(dirname "$0")/.." || exit 1
 library=target/staticlib/libhost.a built=target/examples
@@ -34,6 +35,11 @@ run_book() {
     "$1"
 }
 
+# a program
+run_salvage() {
+    "$1"
+}
+
 rt staticlib host | tail -1 || exit 1
 mkdir -p $built
 {
@@ -45,5 +51,7 @@ try save C++ $built/save_cpp g++ -std=c++17 "${strict[@]}" -x c++ examples/c/sav
 try save Rust $built/save_rust rustc --edition 2024 -O -D warnings -L target/staticlib examples/rust/save.rs
 try book C $built/book_c gcc -std=c11 "${strict[@]}" examples/c/book.c $library
 try book C++ $built/book_cpp g++ -std=c++17 "${strict[@]}" -x c++ examples/c/book.c -x none $library
+try salvage C $built/salvage_c gcc -std=c11 "${strict[@]}" examples/c/salvage.c $library
+try salvage C++ $built/salvage_cpp g++ -std=c++17 "${strict[@]}" -x c++ examples/c/salvage.c -x none $library
 echo "$passed passed, $failed failed"
 [ "$failed" -eq 0 ]

@@ -3,13 +3,13 @@
  *
  * A chip is a zeradok_state and an array of exactly its size: 1,048,576 bytes (F25L008A, chip number 8) or 65,536 (F25L05PA, 5).
  * The calls keep nothing between them. Each answers any arguments that keep the rules below: 0, or the number of the first refusal
- * that holds. A refused call writes through no pointer and gives back the state that it got, with lengths, counts and values 0.
+ * that holds. A refused call writes through no pointer and gives back the state that it got, if it got one, with lengths, counts and values 0.
  *
  * What a caller owes, which no call can test:
  *  - a slice is a pointer and a length, and all bytes of the length can be read, and written where the pointer is not const.
  *    An empty slice may have any pointer, NULL too. The length of `scenes` counts its numbers, not its bytes;
  *  - `chip` of the frame calls points to one zeradok_state, and `scenes` to its first number, each aligned as C aligns it;
- *  - what a call may write (the state behind `chip`, array, output, buffer) overlaps nothing else that the same call is passed;
+ *  - what a call may write (the state behind `chip`, array, output, buffer, kept, dropped) overlaps nothing else that the same call is passed;
  *    what it only reads may overlap;
  *  - every bool, in a state too, is 0 or 1; no other thread writes what a call was passed while it runs.
  * A state needs no further care: the calls refuse one that no chip can be in.
@@ -23,6 +23,8 @@
  *     nothing else has moved. (The F25L05PA may stand unprotected.)
  * A game with one flag a scene needs no wanted bytes, if it keeps its flags in the flag book (below; examples/c/book.c). zeradok_book_mark is then
  * called in place of zeradok_plan, in 1 and in 3, where the same list is marked again.
+ * A sector of names in which a mark is damaged gives back what is still good by zeradok_salvage (below; examples/c/salvage.c). It works on an image of
+ * the sector, in memory, and what it leaves there is not for writing back: its warning says why.
  * Beside a real chip the model gets each frame and wait too, so that state and array stay the chip's; after power-up the array is read back
  * (03). The waits are the sheets' typical times: wait on until bit 0 of the status (05) is 0. The F25L05PA's status write (01) takes no time
  * here but up to 15 ms there (40 ms below 2.7 V): wait for bit 0 behind it as well. A 05 between 06 or 50 and the 01 would spoil the 01.
@@ -70,6 +72,9 @@ typedef struct { uint32_t number, kind; size_t start, length; uint32_t microseco
 
 /* A question's answer: 1 or 0, or how many; 0 with a refusal. */
 typedef struct { uint32_t number; zeradok_state state; uint32_t value; } zeradok_told;
+
+/* length: bytes of the list of dropped stretches; kept: bytes of the kept records. Both 0 with a refusal. */
+typedef struct { uint32_t number, length, kept; } zeradok_salvaged;
 
 /* A new chip: its state, the array being erased, all FF. An F25L008A has this state after every power-up; an F25L05PA keeps bp, tb and bpl, which
  * are bits 2 to 4, 5 and 7 of its status (05). Refusal 1: an unknown chip number (the state is then a new F25L05PA). Changes nothing. */
@@ -142,6 +147,33 @@ zeradok_told zeradok_book_count(zeradok_state chip, const uint8_t *array, size_t
  * ZERADOK_WORST_BYTES every time: that is accepted, and once sent it leaves exactly the listed scenes read besides those that were. */
 zeradok_planned zeradok_book_mark(zeradok_state chip, bool wp_high, const uint8_t *array, size_t array_length, size_t sector,
                                   const uint32_t *scenes, size_t scenes_length, uint8_t *buffer, size_t buffer_length);
+
+/* A name sector keeps scenes by name: records from the sector's start on, one behind the other, each the mark 4E 52 ("NR"), a length of 1 to 32 and
+ * so many bytes 20 to 7E, the scene's name. The first place without a whole good record ends them, so a damaged mark hides every name behind it. */
+
+#define ZERADOK_LONGEST_DROPPED 3280 /* a list of this length never meets refusal 10 */
+
+/* Salvages a sick name sector: keeps each whole good record of its image and steps over anything else, byte by byte, to the next one. A record is
+ * whole if all of it lies in the sector. It has no chip and no state, and changes kept and dropped only, which are other memory than the image.
+ * kept gets the records from its front on, in their order, equal names as often as they come, and FF behind them.
+ * dropped gets the list of what is left out: four bytes a stretch, its start in the sector and its length, each in two bytes, high first. The starts
+ * rise, no stretch touches the next, and the rest of dropped is not written.
+ * All FF at the sector's end are its erased stretch, neither kept nor dropped; FF in front of anything else are dropped as any byte is. So records,
+ * dropped stretches and the erased one cover the sector once each, and where the list is empty kept is the sector as it was.
+ * Refusals, in this order: 2 the sector or kept isn't 4,096 bytes: a slip of the program;
+ * 10 the list doesn't fit in dropped: give more room, or ZERADOK_LONGEST_DROPPED every time.
+ *
+ * Compare the kept names with those that the game has. Nothing in a record checks its name, so damage that leaves a good record goes unseen. And a
+ * good record can begin inside a damaged one: a name may hold "NR" and a space, and the space, 20, is also the length 32. By the words above it is
+ * kept, a name that nobody marked; it goes on past the damaged record, and a good one that begins there can be lost to it.
+ *
+ * WARNING: do not write kept to a chip where a power cut can come. One plan writes marks and names together, and a cut may leave a whole mark in
+ * front of a half-written name: a reader then meets a made-up one. Nor does a plan write over the old names (refusal 8) before they are erased, and
+ * then a cut costs them all. So leave the old sector untouched, let the game go by kept, in memory, and salvage again at each start. The safe way
+ * will be to erase another sector and mark the kept names in it one by one, names and lengths by one plan, marks by a second. The calls for that (02,
+ * A11 and A7) are still to come. */
+zeradok_salvaged zeradok_salvage(const uint8_t *sector, size_t sector_length, uint8_t *kept, size_t kept_length,
+                                 uint8_t *dropped, size_t dropped_length);
 
 #ifdef __cplusplus
 }

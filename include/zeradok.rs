@@ -9,6 +9,9 @@ pub const WORST_BYTES: usize = 26_672;
 pub const WORST_FRAMES: u32 = 3_079;
 pub const WORST_MICROSECONDS: u32 = 25_500;
 
+/// No list of dropped stretches is longer.
+pub const LONGEST_DROPPED: usize = 3_280;
+
 /// A C `bool` as it stands in memory: that the library gives back 0 or 1 is checked, not believed.
 #[repr(transparent)]
 #[derive(Clone, Copy, Debug, PartialEq, Eq)]
@@ -98,6 +101,14 @@ pub struct Told {
     pub value: u32,
 }
 
+#[repr(C)]
+#[derive(Clone, Copy, Debug, PartialEq, Eq)]
+pub struct Salvaged {
+    pub number: u32,
+    pub length: u32,
+    pub kept: u32,
+}
+
 #[link(name = "host", kind = "static")]
 unsafe extern "C" {
     safe fn zeradok_new(chip: u8) -> Answer;
@@ -172,6 +183,14 @@ unsafe extern "C" {
         buffer: *mut u8,
         buffer_length: usize,
     ) -> Planned;
+    fn zeradok_salvage(
+        sector: *const u8,
+        sector_length: usize,
+        kept: *mut u8,
+        kept_length: usize,
+        dropped: *mut u8,
+        dropped_length: usize,
+    ) -> Salvaged;
 }
 
 // Every unsafe call below lends pointers and lengths of live slices, for the call alone, and no
@@ -307,6 +326,19 @@ pub fn book_mark(
             scenes.len(),
             buffer.as_mut_ptr(),
             buffer.len(),
+        )
+    }
+}
+
+pub fn salvage(sector: &[u8], kept: &mut [u8], dropped: &mut [u8]) -> Salvaged {
+    unsafe {
+        zeradok_salvage(
+            sector.as_ptr(),
+            sector.len(),
+            kept.as_mut_ptr(),
+            kept.len(),
+            dropped.as_mut_ptr(),
+            dropped.len(),
         )
     }
 }

@@ -1,5 +1,5 @@
-/* The structs of include/zeradok.h lie in memory as the library has them, and its numbers of the worst case are those of 02 (A8), in C and in C++:
- * it is compiled and never run. tests/zeradok/src/layout.rs says the same of the Rust binding. */
+/* The structs of include/zeradok.h lie in memory as the library has them, and its numbers are those of 02, of the worst case (A8) and of the longest
+ * list of dropped stretches (A9), in C and in C++: it is compiled and never run. tests/zeradok/src/layout.rs says the same of the Rust binding. */
 #include "zeradok.h"
 
 #include <assert.h>
@@ -57,6 +57,12 @@ FIELD(zeradok_told, number, 0);
 FIELD(zeradok_told, state, 4);
 FIELD(zeradok_told, value, 20);
 
+SIZE(zeradok_salvaged, 12);
+FIELD(zeradok_salvaged, number, 0);
+FIELD(zeradok_salvaged, length, 4);
+FIELD(zeradok_salvaged, kept, 8);
+
 static_assert(ZERADOK_WORST_BYTES == 26672, "ZERADOK_WORST_BYTES");
 static_assert(ZERADOK_WORST_FRAMES == 3079, "ZERADOK_WORST_FRAMES");
 static_assert(ZERADOK_WORST_MICROSECONDS == 25500, "ZERADOK_WORST_MICROSECONDS");
+static_assert(ZERADOK_LONGEST_DROPPED == 3280, "ZERADOK_LONGEST_DROPPED");

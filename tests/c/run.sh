@@ -1,5 +1,5 @@
 #!/usr/bin/env bash
-# The C interface from C: how the structs lie in memory and the numbers of the worst case, in C and in C++, and the sample sessions over the library
+# The C interface from C: how the structs lie in memory and the numbers that are defined, in C and in C++, and the sample sessions over the library
 # as it was built. The last line counts the three, and the exit is non-zero where one fails.
 set -uo pipefail
 cd "$(dirname "$0")/../.." || exit 1

@@ -1,5 +1,5 @@
-/* 01's sample sessions, a plan of each chip, the flag book and the refusals 1 to 15, by a C program that knows include/zeradok.h and nothing else.
- * Every byte of each output and of the array is compared. */
+/* 01's sample sessions, a plan of each chip, the flag book, salvaged name sectors and the refusals 1 to 15, by a C program that knows
+ * include/zeradok.h and nothing else. Every byte of each output and of the array is compared. */
 #include "zeradok.h"
 
 #include <stdio.h>
@@ -654,6 +654,218 @@ static bool book_cut(uint8_t number)
         && is_read(0, 0) && is_unread(0, 1) && is_unread(0, 8) && is_read(0, 9) && counts(2, 0);
 }
 
+/* ---- name sectors salvaged: an image is laid piece by piece, and with it the records that are to be kept */
+
+enum { CUT_TO_SECTOR = 65536 + SECTOR }; /* cut to 16 bits it is a sector's length */
+
+static uint8_t image[CUT_TO_SECTOR], lent[CUT_TO_SECTOR], kept[CUT_TO_SECTOR], to_keep[SECTOR], to_drop[ZERADOK_LONGEST_DROPPED];
+static size_t laid, to_keep_length;
+
+/* one byte throughout, behind the sector too */
+static bool filled(uint8_t filling)
+{
+    memset(image, filling, sizeof image);
+    memset(to_keep, 0xFF, SECTOR);
+    laid = to_keep_length = 0;
+    return true;
+}
+
+/* where the next piece is laid */
+static bool from(size_t place)
+{
+    laid = place;
+    return true;
+}
+
+static bool raw(const char *hex)
+{
+    laid += bytes_of(hex, image + laid);
+    return true;
+}
+
+/* a record's bytes, good or not; the mark's first byte is given */
+static bool name_record(uint8_t first, const char *name)
+{
+    size_t count = strlen(name);
+    const uint8_t front[] = {first, 0x52, (uint8_t)count};
+    memcpy(image + laid, front, 3);
+    memcpy(image + laid + 3, name, count);
+    laid += 3 + count;
+    return true;
+}
+
+static bool damaged(const char *name)
+{
+    return name_record(0x4C, name);
+}
+
+static bool with_mark(const char *name)
+{
+    return name_record(0x4E, name);
+}
+
+/* of what is laid already, so many bytes from this place on are to be kept */
+static bool keeps_from(size_t place, size_t count)
+{
+    memcpy(to_keep + to_keep_length, image + place, count);
+    to_keep_length += count;
+    return true;
+}
+
+static bool keeps(const char *name)
+{
+    const size_t place = laid;
+    return with_mark(name) && keeps_from(place, laid - place);
+}
+
+static zeradok_salvaged salvage(size_t sector_length, size_t kept_length, size_t room)
+{
+    fill_buffers();
+    memset(kept, 0xA5, sizeof kept);
+    memcpy(lent, image, sizeof lent);
+    return zeradok_salvage(sector_length ? lent : NULL, sector_length, kept_length ? kept : NULL, kept_length, room ? buffer : NULL, room);
+}
+
+/* the sector is as it was, and so is each buffer behind its first so many bytes */
+static bool untouched_behind(size_t kept_bytes, size_t list_bytes)
+{
+    return memcmp(kept + kept_bytes, untouched, SECTOR + 1 - kept_bytes) == 0
+        && memcmp(buffer + list_bytes, untouched, sizeof buffer - list_bytes) == 0 && memcmp(lent, image, sizeof lent) == 0;
+}
+
+static bool salvage_refused(uint32_t number, size_t sector_length, size_t kept_length, size_t room)
+{
+    zeradok_salvaged s = salvage(sector_length, kept_length, room);
+    return s.number == number && s.length == 0 && s.kept == 0 && untouched_behind(0, 0);
+}
+
+static bool salvaged_in(size_t room, size_t length)
+{
+    zeradok_salvaged s = salvage(SECTOR, SECTOR, room);
+    return s.number == 0 && s.length == length && s.kept == to_keep_length && memcmp(kept, to_keep, SECTOR) == 0
+        && memcmp(buffer, to_drop, length) == 0 && untouched_behind(SECTOR, length);
+}
+
+/* the list has so many bytes: refused in one byte fewer and in none, taken in just enough room and in more */
+static bool salvaged(size_t length)
+{
+    return (length == 0 || (salvage_refused(10, SECTOR, SECTOR, length - 1) && salvage_refused(10, SECTOR, SECTOR, 0)))
+        && salvaged_in(length, length) && salvaged_in(length + 3, length) && salvaged_in(sizeof buffer, length);
+}
+
+static bool drops(const char *list)
+{
+    return salvaged(bytes_of(list, to_drop));
+}
+
+/* the first mark, the middle one; a mark with nothing behind it, a bad byte in a name, and a mark's second byte */
+static bool salvage_damaged(void)
+{
+    return filled(0xFF) && damaged("prologue") && keeps("station at night") && keeps("letter") && drops("00 00 00 0B")
+        && filled(0xFF) && keeps("prologue") && damaged("station at night") && keeps("letter") && drops("00 0B 00 13")
+        && filled(0xFF) && raw("4E 52") && keeps("letter") && raw("4E 52 03 61 0A 62") && keeps("prologue") && raw("4E 50 01 61") && keeps("b")
+        && drops("00 00 00 02 00 0B 00 06 00 1C 00 04");
+}
+
+/* the stretch that is stepped over has FF at its front, at its end or all through; those at the sector's end are in none */
+static bool salvage_ff_inside(void)
+{
+    return filled(0xFF) && from(3) && keeps("a") && raw("FF FF 00") && keeps("b") && raw("00 FF") && keeps("c") && raw("FF 00 FF FF")
+        && drops("00 00 00 03 00 07 00 03 00 0E 00 02 00 14 00 02")
+        && filled(0xFF) && keeps("a") && from(256) && keeps("b") && from(4095) && raw("7F") && drops("00 04 00 FC 01 04 0E FC");
+}
+
+static bool salvage_at_the_end(void)
+{
+    return filled(0xFF) && from(4085) && keeps("prologue") && drops("00 00 0F F5")
+        && filled(0x00) && from(4092) && keeps("a") && drops("00 00 0F FC");
+}
+
+/* by the sector's end, with the rest lying behind it, from the last byte missing to all but the first; and by the erased stretch */
+static bool salvage_cut_off(void)
+{
+    bool dropped = true;
+    for (size_t place = 4092; place < SECTOR; place++)
+        dropped = dropped && filled(0x00) && from(place) && raw("4E 52 02 61 62") && drops("00 00 10 00");
+    return dropped && filled(0xFF) && keeps("a") && raw("4E 52 08 70 72 6F 6C 6F 67 75") && drops("00 04 00 0A")
+        && filled(0xFF) && raw("4E") && drops("00 00 00 01");
+}
+
+static bool salvage_one_byte_throughout(void)
+{
+    return filled(0xFF) && drops("") && filled(0x00) && drops("00 00 10 00") && filled(0x4E) && drops("00 00 10 00")
+        && filled(0xFF) && from(4095) && raw("FE") && drops("00 00 10 00") && filled(0xFF) && raw("FE") && drops("00 00 00 01");
+}
+
+/* 1,024 records just fill a sector; then one of them is damaged */
+static bool salvage_full(void)
+{
+    bool whole = filled(0xFF);
+    while (laid < SECTOR) whole = whole && keeps("a");
+    whole = whole && to_keep_length == SECTOR && drops("");
+    image[0x0800] = 0xFF;
+    to_keep_length -= 4;
+    memset(to_keep + to_keep_length, 0xFF, 4);
+    return whole && drops("08 00 00 04");
+}
+
+/* lengths 0, 1, 32 and 33, and the bytes 1F, 20, 7E and 7F */
+static bool salvage_edges(void)
+{
+    const char *of_33 = "abcdefghijklmnopqrstuvwxyz0123456", *of_32 = of_33 + 1;
+    return filled(0xFF) && with_mark("") && keeps("a") && keeps(of_32) && with_mark(of_33) && drops("00 00 00 03 00 2A 00 24")
+        && filled(0xFF) && keeps(" ") && keeps("~") && with_mark("\x1F") && keeps(" ~") && with_mark("\x7F") && drops("00 08 00 04 00 11 00 04")
+        && filled(0xFF) && keeps("a") && with_mark("a\x80") && keeps("a") && with_mark("\xFF") && drops("00 04 00 05 00 0D 00 03");
+}
+
+/* the step is a byte: not over a mark, nor over what a bad record takes for its name */
+static bool salvage_bytewise(void)
+{
+    return filled(0xFF) && raw("4E") && keeps("a") && raw("4E 52") && keeps("b") && raw("4E 52 05 61 62") && keeps("c")
+        && raw("4E 52 20") && keeps("d") && drops("00 00 00 01 00 05 00 02 00 0B 00 05 00 14 00 03");
+}
+
+/* In a good record it is a name and no more. In a damaged one it can begin a record with a name of 32 bytes, which go on into the next record: not
+ * where that has the length 6, but where it has 32, and then that record is lost, good as it was. */
+static bool salvage_inside(void)
+{
+    const char *inside = "NR abcdefghijklmnopqrstuvwxyz012", *of_32 = "station at night, in the rain...";
+    return filled(0xFF) && keeps(inside) && keeps("letter") && drops("")
+        && filled(0xFF) && damaged(inside) && keeps("letter") && drops("00 00 00 23")
+        && filled(0xFF) && damaged(inside) && with_mark(of_32) && keeps_from(3, 35) && keeps("letter") && drops("00 00 00 03 00 26 00 20");
+}
+
+static bool salvage_equal_names(void)
+{
+    return filled(0xFF) && keeps("letter") && keeps("letter") && damaged("letter") && keeps("letter") && drops("00 12 00 09");
+}
+
+/* a bad byte in front of each record of one letter, and one at the sector's end: no list is longer. 3,279 bytes are too few for it */
+static bool salvage_longest_list(void)
+{
+    bool ready = filled(0xFF) && raw("00");
+    size_t length = 0;
+    while (laid < SECTOR) ready = ready && keeps("a") && raw("00");
+    for (size_t start = 0; start < SECTOR; start += 5) {
+        const uint8_t stretch[] = {(uint8_t)(start >> 8), (uint8_t)start, 0x00, 0x01};
+        memcpy(to_drop + length, stretch, 4);
+        length += 4;
+    }
+    return ready && laid == SECTOR && length == ZERADOK_LONGEST_DROPPED && salvaged(3280);
+}
+
+/* one slice or both of another length than 4,096: a 2, where the list doesn't fit and where it does */
+static bool salvage_refusals(void)
+{
+    static const size_t lengths[] = {SECTOR - 1, SECTOR + 1, 2 * SECTOR, CUT_TO_SECTOR, 1, 0};
+    bool refused = filled(0xFF) && damaged("prologue") && keeps("letter");
+    for (size_t i = 0; i < sizeof lengths / sizeof *lengths; i++)
+        for (size_t room = 0; room <= 4; room++)
+            refused = refused && salvage_refused(2, lengths[i], SECTOR, room) && salvage_refused(2, SECTOR, lengths[i], room)
+                && salvage_refused(2, lengths[i], lengths[i], room);
+    return refused && salvage_refused(10, SECTOR, SECTOR, 0) && salvage_refused(10, SECTOR, SECTOR, 3) && drops("00 00 00 0B");
+}
+
 /* ---- refusals: nothing is changed */
 
 static bool refused(uint32_t number, size_t array_length, size_t frame_length, size_t output_length, size_t mask_length)
@@ -710,6 +922,18 @@ static const struct {
     {"power-up of both chips", power},
     {"a cut page", cut},
     {"book: questions while busy, in power-down and in AAI, and refusal 7", book_not_at_rest},
+    {"salvage: damaged records in front of good ones", salvage_damaged},
+    {"salvage: FF inside", salvage_ff_inside},
+    {"salvage: a record that ends at byte 4,095", salvage_at_the_end},
+    {"salvage: a record cut off by the end", salvage_cut_off},
+    {"salvage: all FF, no FF, one byte throughout", salvage_one_byte_throughout},
+    {"salvage: a sector full of records", salvage_full},
+    {"salvage: the edges of lengths and of names", salvage_edges},
+    {"salvage: byte by byte to the next record", salvage_bytewise},
+    {"salvage: NR and a space in a name", salvage_inside},
+    {"salvage: equal names are all kept", salvage_equal_names},
+    {"salvage: 820 stretches, 3,280 bytes of list", salvage_longest_list},
+    {"salvage: refusal 2, before 10", salvage_refusals},
     {"refusals 1 to 5 change nothing", refusals},
 };
 
