@@ -62,26 +62,22 @@ covered pieces used long h t k =
 
 -- ---- each piece is right
 
+one-byte : (image : List ℕ) (at : ℕ) → front (drop at image) ≡ none → Right image at (dropped 1)
+one-byte image at e k w = let b = within-bounds at 1 k w in let here : k ≡ at = omega (arith, b .0, b .1) in rw here e
+
+byte-more : (image : List ℕ) (at n : ℕ) → front (drop at image) ≡ none → Right image (at + 1) (dropped n) → Right image at (dropped (suc n))
+byte-more image at n e r k w =
+    let b = within-bounds at (suc n) k w in
+    ⊎-elim (λ first. let here : k ≡ at = omega (arith, b .0) in rw here e)
+    (λ later. r k (within-yes (at + 1) n k (omega arith) (omega (arith, b .1)))) (split k (at + 1))
+
 each-byte : (image : List ℕ) (at : ℕ) (pieces : List Piece) → front (drop at image) ≡ none → EachPiece (Right image) (at + 1) pieces
     → EachPiece (Right image) at (dropByte pieces)
-each-byte image at [] e r = (one, tt)
-  where
-    one : (k : ℕ) → within at 1 k ≡ true → front (drop k image) ≡ none
-    one k w = let b = within-bounds at 1 k w in let here : k ≡ at = omega (arith, b .0, b .1) in rw here e
-each-byte image at (kept name ∷ pieces) e r = (one, r)
-  where
-    one : (k : ℕ) → within at 1 k ≡ true → front (drop k image) ≡ none
-    one k w = let b = within-bounds at 1 k w in let here : k ≡ at = omega (arith, b .0, b .1) in rw here e
-each-byte image at (dropped n ∷ pieces) e r = (all, rw there at (r .1))
-  where
-    there : at + 1 + n ≡ at + suc n
-    there = omega arith
-
-    all : (k : ℕ) → within at (suc n) k ≡ true → front (drop k image) ≡ none
-    all k w =
-        let b = within-bounds at (suc n) k w in
-        ⊎-elim (λ first. let here : k ≡ at = omega (arith, b .0) in rw here e)
-        (λ later. r .0 k (within-yes (at + 1) n k (omega arith) (omega (arith, b .1)))) (split k (at + 1))
+each-byte image at [] e r = (one-byte image at e, tt)
+each-byte image at (kept name ∷ pieces) e r = (one-byte image at e, r)
+each-byte image at (dropped n ∷ pieces) e r =
+    let there : at + 1 + n ≡ at + suc n = omega arith in
+    (byte-more image at n e (r .0), rw there at (r .1))
 
 -- the walk from a place on
 walk-right : (bytes image : List ℕ) (at : ℕ) → drop at image ≡ bytes → EachPiece (Right image) at (piecesIn bytes)
