@@ -65,7 +65,7 @@ pub record SectorSalvaged (sector kept : List ℕ) (size : ℕ) (list : List ℕ
   pub used : ℕ
   -- "keep each whole good record, and step bytewise over anything else to the next one"
   pub good : Each (λ s. GoodRecord sector (s .start) (s .count)) records
-  pub nothing-dropped : Each (λ s. (k n : ℕ) → s .start ≤ k → k < s .start + s .count → GoodRecord sector k n → ⊥) stretches
+  pub none-missed : Each (λ s. (k n : ℕ) → s .start ≤ k → k < s .start + s .count → GoodRecord sector k n → ⊥) stretches
   -- "Write these from the front of a lent 4,096-byte buffer, FF after them": in the old order
   pub in-order : Rising 0 records
   pub size-is : size ≡ length (bytesOf sector records)

@@ -3,7 +3,7 @@
 use std::hint::black_box;
 
 use model::{Calls, Model, State, Told, LONGEST_REGION, SCENES};
-use zeradok::Library;
+use zeradok::{Library, LONGEST_DROPPED};
 
 const SIZE_008A: usize = 0x10_0000;
 const SIZE_05PA: usize = 0x1_0000;
@@ -55,6 +55,13 @@ pub enum Operation {
         scenes: Vec<u32>,
         buffer: Vec<u8>,
     },
+    /// `kept` bytes are what it has to be answered with.
+    Salvage {
+        sector: Vec<u8>,
+        buffer: Vec<u8>,
+        list: Vec<u8>,
+        kept: u32,
+    },
     Copy {
         from: Vec<u8>,
         to: Vec<u8>,
@@ -66,7 +73,7 @@ pub enum Operation {
 
 type Prepare = fn() -> Operation;
 
-pub const OPERATIONS: [(&str, Prepare); 19] = [
+pub const OPERATIONS: [(&str, Prepare); 24] = [
     ("05, status", || frame(writing(8), SIZE_008A, &[0x05, 0x00], 2)),
     ("05 while busy", || {
         let state = State { left: 1_000, ..writing(8) };
@@ -103,6 +110,11 @@ pub const OPERATIONS: [(&str, Prepare); 19] = [
     ("mark 8 scenes (05PA)", || mark(5, SIZE_05PA, scattered())),
     ("mark all scenes (008A)", || mark(8, SIZE_008A, (0..SCENES).collect())),
     ("mark all scenes (05PA)", || mark(5, SIZE_05PA, (0..SCENES).collect())),
+    ("salvage a full sector", || salvage(b"NR\x05Scene", 4_096)),
+    ("salvage an erased sector", || salvage(b"\xFF", 0)),
+    ("salvage zeros", || salvage(b"\x00", 0)),
+    ("salvage 820 stretches", || salvage(b"\0NR\x01A", 3_276)),
+    ("salvage the dearest sector", || salvage(b"NR NR NR NR NR NR NR NR NR NR NR N\0", 0)),
 ];
 
 /// What no frame that shows or erases as much can cost less than: the C library does it, and
@@ -182,6 +194,14 @@ fn mark(chip: u8, size: usize, scenes: Vec<u32>) -> Operation {
         scenes,
         buffer: vec![0; ROOMY],
     }
+}
+
+/// A sector of these bytes again and again. The dearest is one where a record seems to begin as
+/// often as it can, and each is read as far as it can be before a byte that no name may hold.
+fn salvage(bytes: &[u8], kept: u32) -> Operation {
+    let sector = bytes.iter().copied().cycle().take(4_096).collect();
+    let (buffer, list) = (vec![0; 4_096], vec![0; LONGEST_DROPPED]);
+    Operation::Salvage { sector, buffer, list, kept }
 }
 
 /// Running what a plan gives. Programming what is programmed already costs no less.
@@ -307,6 +327,13 @@ impl Operation {
                     let (state, buffer) = (black_box(*state), black_box(&mut buffer[..]));
                     let planned = S::book_mark(state, true, array, *sector, scenes, buffer);
                     assert_eq!(planned.number, 0);
+                }
+            }
+            Operation::Salvage { sector, buffer, list, kept } => {
+                for _ in 0..times {
+                    let (buffer, list) = (black_box(&mut buffer[..]), black_box(&mut list[..]));
+                    let salvaged = S::salvage(black_box(&sector[..]), buffer, list);
+                    assert_eq!((salvaged.number, salvaged.kept), (0, *kept));
                 }
             }
             Operation::Copy { from, to } => {

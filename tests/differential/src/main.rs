@@ -4,10 +4,12 @@ use std::process::ExitCode;
 
 use cases::book::Books;
 use cases::counts::{goals, Counts};
+use cases::salvage::{self, Salvages, LONGEST_LIST};
 use cases::unread::{Script, Unread};
 use cases::worst::{Amounts, Planner};
 use cases::{explore, written_out, Item, Outcome, CHIPS};
-use zeradok::{Library, WORST_BYTES, WORST_FRAMES, WORST_MICROSECONDS};
+use model::Calls;
+use zeradok::{Library, LONGEST_DROPPED, WORST_BYTES, WORST_FRAMES, WORST_MICROSECONDS};
 
 const SEED: u64 = 1;
 const CASES: usize = 480_000;
@@ -16,13 +18,18 @@ const PLANS: usize = 100_000;
 const MOST_ASKED: usize = 2 * PLANS;
 /// How many books are marked on each chip.
 const MARKS: usize = 2_000;
+/// How many sectors are salvaged, each with every room that matters, and on how many more the
+/// promises are tried.
+const SECTORS: usize = 10_000;
+const PROMISED: usize = 3_000;
 
-// The binding has the greatest of both chips' limits.
+// The binding has the greatest of both chips' limits, and the length of the longest list.
 const _: () = {
     let Amounts { bytes, frames, microseconds } = Amounts::WORST;
     assert!(WORST_BYTES == bytes as usize);
     assert!(WORST_FRAMES == frames);
     assert!(WORST_MICROSECONDS == microseconds);
+    assert!(LONGEST_DROPPED == LONGEST_LIST);
 };
 
 fn main() -> ExitCode {
@@ -52,7 +59,8 @@ fn main() -> ExitCode {
     let unread = nothing_turns_unread(&scripts, &mut counts);
     let limited = CHIPS.map(|chip| keeps_limits(chip, seed, &mut counts)) == [true; 2];
     let promised = CHIPS.map(|chip| keeps_promises(chip, seed, &mut counts)) == [true; 2];
-    if all_met(&counts) && unread && limited && promised && failing.is_empty() {
+    let salvaged = salvages(seed, &mut counts) && keeps_names(seed, &mut counts);
+    if all_met(&counts) && unread && limited && promised && salvaged && failing.is_empty() {
         ExitCode::SUCCESS
     } else {
         ExitCode::FAILURE
@@ -108,6 +116,31 @@ fn keeps_promises(chip: u8, seed: u64, counts: &mut Counts) -> bool {
             return false;
         }
         counts.note_promised(chip, &found.tested);
+    }
+    true
+}
+
+/// Whether the library salvages sectors as the model does; prints the first that it doesn't.
+fn salvages(seed: u64, counts: &mut Counts) -> bool {
+    match salvage::explore(Library::salvage, seed, SECTORS, |call| counts.note_salvage(call)) {
+        Ok(()) => true,
+        Err(found) => {
+            println!("seed {seed}, sector {}\n{}\n\n{}", found.index, found.what, found.text);
+            false
+        }
+    }
+}
+
+/// Whether the library's salvages keep what A9 promises; prints the first that doesn't.
+fn keeps_names(seed: u64, counts: &mut Counts) -> bool {
+    let mut salvages = Salvages::new(Library::salvage, seed);
+    for _ in 0..PROMISED {
+        let (image, found) = salvages.salvage();
+        if !found.broken.is_empty() {
+            println!("{found}\n{}", Salvages::text(&image));
+            return false;
+        }
+        counts.note_salvaged(&found.tested);
     }
     true
 }

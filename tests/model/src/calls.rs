@@ -59,6 +59,15 @@ pub struct Told {
     pub value: u32,
 }
 
+/// A sector salvaged: the bytes of the list of dropped stretches and of the kept records; both 0
+/// with a refusal.
+#[derive(Clone, Copy, Debug, PartialEq, Eq)]
+pub struct Salvaged {
+    pub number: u32,
+    pub length: u32,
+    pub kept: u32,
+}
+
 /// One record of a script; `kind` is one of the constants of [`kind`].
 #[derive(Clone, Copy, Debug, Default, PartialEq, Eq)]
 pub struct Record {
@@ -78,7 +87,7 @@ pub mod kind {
     pub const END: u32 = 3;
 }
 
-/// Somebody who answers the twelve calls: this model, a wrong copy of it, or the library.
+/// Somebody who answers the thirteen calls: this model, a wrong copy of it, or the library.
 pub trait Calls {
     fn new_chip(chip: u8) -> Answer;
     fn power_up(state: State) -> Answer;
@@ -119,6 +128,7 @@ pub trait Calls {
         scenes: &[u32],
         buffer: &mut [u8],
     ) -> Planned;
+    fn salvage(sector: &[u8], kept: &mut [u8], dropped: &mut [u8]) -> Salvaged;
 }
 
 impl Answer {
@@ -150,5 +160,11 @@ impl Told {
 impl Ran {
     pub(crate) fn refused(number: u32, state: State, offset: usize) -> Self {
         Self { number, state, frames: 0, microseconds: 0, offset }
+    }
+}
+
+impl Salvaged {
+    pub(crate) fn refused(number: u32) -> Self {
+        Self { number, length: 0, kept: 0 }
     }
 }

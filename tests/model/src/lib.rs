@@ -1,6 +1,7 @@
 //! A second model, in plain Rust, written from the two data sheets and documents 01 and 02 alone. It is what the library is compared with, and the baseline its speed is measured by.
 //!
-//! `Model` is the right model; `Model<{ Fault::… as u8 }>` is a copy that is wrong in one way.
+//! `Model` is the right model; `Model<{ Fault::… as u8 }>` is a copy that is wrong in one way, and so
+//! is `salvage::<{ SalvageFault::… as u8 }>`, a copy of that one call.
 #![no_std]
 
 mod book;
@@ -9,29 +10,33 @@ mod chip;
 mod effect;
 mod fault;
 mod frame;
+mod names;
 mod pages;
 mod plan;
 mod reader;
 mod records;
 mod reply;
+mod salvage;
 mod script;
 mod state;
 mod words;
 
 pub use book::{BOOK, SCENES};
-pub use calls::{kind, Answer, Calls, Planned, Ran, Record, State, Surveyed, Told};
+pub use calls::{kind, Answer, Calls, Planned, Ran, Record, Salvaged, State, Surveyed, Told};
 pub use chip::{Chip, Kind, SECTOR};
-pub use fault::Fault;
+pub use fault::{Fault, SalvageFault};
 pub use frame::{Reason, LONGEST_FRAME};
+pub use names::names_of;
 pub use plan::LONGEST_REGION;
 pub use reader::LONGEST_SCRIPT;
+pub use salvage::salvage;
 
 use effect::Effect;
 use state::refusal;
 
 const RIGHT: u8 = Fault::None as u8;
 
-/// The twelve calls as this model answers them.
+/// The thirteen calls as this model answers them.
 pub struct Model<const FAULT: u8 = RIGHT>;
 
 impl<const FAULT: u8> Calls for Model<FAULT> {
@@ -140,6 +145,10 @@ impl<const FAULT: u8> Calls for Model<FAULT> {
                 Planned::refused(number, state)
             },
         )
+    }
+
+    fn salvage(sector: &[u8], kept: &mut [u8], dropped: &mut [u8]) -> Salvaged {
+        salvage::<{ SalvageFault::None as u8 }>(sector, kept, dropped)
     }
 }
 

@@ -84,6 +84,12 @@ impl From<binding::Told> for model::Told {
     }
 }
 
+impl From<binding::Salvaged> for model::Salvaged {
+    fn from(salvaged: binding::Salvaged) -> Self {
+        Self { number: salvaged.number, length: salvaged.length, kept: salvaged.kept }
+    }
+}
+
 impl From<binding::Record> for model::Record {
     fn from(record: binding::Record) -> Self {
         Self {

@@ -6,8 +6,8 @@ mod binding;
 mod convert;
 mod layout;
 
-pub use binding::{WORST_BYTES, WORST_FRAMES, WORST_MICROSECONDS};
-use model::{Answer, Calls, Planned, Ran, Record, State, Surveyed, Told};
+pub use binding::{LONGEST_DROPPED, WORST_BYTES, WORST_FRAMES, WORST_MICROSECONDS};
+use model::{Answer, Calls, Planned, Ran, Record, Salvaged, State, Surveyed, Told};
 
 /// The verified library.
 pub struct Library;
@@ -133,5 +133,9 @@ impl Calls for Library {
         buffer: &mut [u8],
     ) -> Planned {
         binding::book_mark(state.into(), wp_high, array, sector, scenes, buffer).into()
+    }
+
+    fn salvage(sector: &[u8], kept: &mut [u8], dropped: &mut [u8]) -> Salvaged {
+        binding::salvage(sector, kept, dropped).into()
     }
 }

@@ -289,7 +289,7 @@ module _ (sector : List ℕ) (sized : length sector ≡ 4096) where
   rest-of : {kept list : List ℕ} {size : ℕ} (s : SectorSalvaged sector kept size list) → Rest sector (usedLength sector) 0 (s .records) (s .stretches)
   rest-of s = record {
     good = s .good;
-    nothing = s .nothing-dropped;
+    nothing = s .none-missed;
     in-order = s .in-order;
     rising = s .rising;
     some = s .none-empty;

@@ -2,12 +2,14 @@
 
 use std::fmt;
 
-use model::{kind, Reason};
+use model::{kind, Reason, SECTOR};
 
+use super::salvage_sorts::{Miss, RoomSort, SectorSort};
 use super::sorts::{AskedSort, FrameSort, ListSort, PlanSort, ScriptSort, TimeSort, WrongBookSort};
 use super::Met;
 use crate::book::Promise;
 use crate::case::BAD_RECORD;
+use crate::salvage::{self, WRONG_LENGTHS};
 use crate::unread::Clause;
 use crate::worst::Limit;
 use crate::{frames, CHIPS, F25L008A, F25L05PA};
@@ -53,6 +55,11 @@ pub fn goals() -> Vec<Goals> {
         goal("questions, by what the chip does", 100, questions()),
         goal("scenes told read and unread", 1_000, told()),
         goal("promises of A2 tested", 500, promises()),
+        goal("sorts of sick sectors", 100, sector_sorts()),
+        goal("what alone keeps a record from being one", 100, misses()),
+        goal("sorts of room for a list", 1_000, room_sorts()),
+        goal("sector slices, by their lengths", 100, slices()),
+        goal("promises of A9 tested", 500, salvage_promises()),
     ]
 }
 
@@ -104,12 +111,13 @@ fn unknown(call: &'static str) -> Vec<Met> {
 
 /// Each refusal of each call that can give it, and on each chip.
 fn refused() -> Vec<Met> {
-    let without_chip: [(&str, &[u32]); 5] = [
+    let without_chip: [(&str, &[u32]); 6] = [
         ("new", &[1]),
         ("power_up", &[1]),
         ("wait", &[1]),
         ("survey", &[11, 12, 13, 14]),
         ("read", &[11, 12, 13, 14]),
+        ("salvage", &[2, 10]),
     ];
     let with_chip: [(&str, &[u32]); 7] = [
         ("frame", &[1, 2, 3, 4]),
@@ -139,7 +147,7 @@ fn refused_first() -> Vec<Met> {
     let before_script = [(1, 2), (1, 12), (1, 13), (1, 14), (2, 11), (2, 12), (2, 13), (2, 14)];
     let before_output = [(1, 4), (11, 4), (12, 4), (13, 4), (14, 4)];
     let before_book = [(1, 2), (1, 15), (2, 15)];
-    let calls: [(&str, &[(u32, u32)]); 12] = [
+    let calls: [(&str, &[(u32, u32)]); 13] = [
         ("frame", &[(1, 2), (1, 3), (1, 4), (2, 3), (2, 4), (3, 4)]),
         ("cut_frame", &[(1, 2), (1, 5), (2, 3), (2, 5), (3, 4), (3, 5), (4, 5)]),
         ("plan", &[(1, 2), (2, 6), (6, 7), (7, 8), (7, 10), (8, 9), (8, 10), (9, 10)]),
@@ -152,6 +160,7 @@ fn refused_first() -> Vec<Met> {
         ("book_count", &before_book),
         ("book_mark", &before_book),
         ("book_mark", &[(15, 7), (15, 9), (15, 10), (7, 10), (9, 10)]),
+        ("salvage", &[(2, 10)]),
     ];
     let mut all = Vec::new();
     for (call, pairs) in calls {
@@ -279,6 +288,28 @@ fn told() -> Vec<Met> {
 fn promises() -> Vec<Met> {
     let on_each = |promise| CHIPS.map(|chip| Met::Promised { chip, promise });
     Promise::ALL.into_iter().flat_map(on_each).collect()
+}
+
+fn sector_sorts() -> Vec<Met> {
+    SectorSort::ALL.iter().map(|&sort| Met::Sector { sort }).collect()
+}
+
+fn misses() -> Vec<Met> {
+    Miss::ALL.iter().map(|&miss| Met::Missed { miss }).collect()
+}
+
+fn room_sorts() -> Vec<Met> {
+    RoomSort::ALL.iter().map(|&sort| Met::Room { sort }).collect()
+}
+
+/// Each length for either slice, the right one among them.
+fn slices() -> Vec<Met> {
+    let lengths = || WRONG_LENGTHS.into_iter().chain([SECTOR]);
+    lengths().flat_map(|sector| lengths().map(move |kept| Met::Slices { sector, kept })).collect()
+}
+
+fn salvage_promises() -> Vec<Met> {
+    salvage::Promise::ALL.map(|promise| Met::Salvaged { promise }).into()
 }
 
 fn script_sorts() -> Vec<Met> {

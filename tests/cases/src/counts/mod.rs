@@ -1,6 +1,7 @@
 //! What the cases met, and how often each of it has to be met.
 
 mod goals;
+mod salvage_sorts;
 mod sorts;
 
 use std::collections::BTreeMap;
@@ -10,10 +11,12 @@ use model::{Model, Reason, State, BOOK};
 use crate::book::{self, Promise};
 use crate::case::{Case, On, Outcome, BAD_RECORD};
 use crate::generator::Item;
+use crate::salvage::{self, Call, Lent, Parts};
 use crate::unread::Clause;
 use crate::worst::{Found, Limit};
 use crate::CHIPS;
 pub use goals::{goals, Goals};
+use salvage_sorts::{Miss, RoomSort, SectorSort};
 use sorts::{AskedSort, FrameSort, ListSort, PlanSort, ScriptSort, TimeSort, WrongBookSort};
 
 /// Something that a case can meet. An unknown chip has number 0, as has none.
@@ -61,6 +64,16 @@ pub enum Met {
     RefusedWithRoom { chip: u8, number: u32 },
     /// A mark put this promise of A2 to the test.
     Promised { chip: u8, promise: Promise },
+    /// A sector that was salvaged was of this sort.
+    Sector { sort: SectorSort },
+    /// This alone kept a record of such a sector from being one.
+    Missed { miss: Miss },
+    /// The list of a sector's dropped stretches had this room.
+    Room { sort: RoomSort },
+    /// A salvage was lent slices of these lengths.
+    Slices { sector: usize, kept: usize },
+    /// A sector put this promise of A9 to the test.
+    Salvaged { promise: salvage::Promise },
 }
 
 #[derive(Default)]
@@ -94,6 +107,37 @@ impl Counts {
     pub fn note_promised(&mut self, chip: u8, promises: &[Promise]) {
         for &promise in promises {
             self.count(Met::Promised { chip, promise });
+        }
+    }
+
+    /// Counts what a salvage was given and met.
+    pub fn note_salvage(&mut self, call: &Call) {
+        let (number, name) = (call.salvaged.number, "salvage");
+        let Lent { sector, kept, .. } = call.lent;
+        self.count(Met::Slices { sector, kept });
+        for sort in salvage_sorts::of_room(call) {
+            self.count(Met::Room { sort });
+        }
+        if number != 0 {
+            self.count(Met::Refused { call: name, chip: 0, number });
+            for other in call.planted().filter(|other| *other > number) {
+                self.count(Met::RefusedFirst { call: name, number, other });
+            }
+        } else if call.lent == Lent::AMPLE {
+            let parts = Parts::new(call.image.sector(), call.list);
+            for sort in salvage_sorts::of_sector(&parts) {
+                self.count(Met::Sector { sort });
+            }
+            for miss in salvage_sorts::of_misses(&parts, call.image) {
+                self.count(Met::Missed { miss });
+            }
+        }
+    }
+
+    /// Counts the promises that a salvage put to the test.
+    pub fn note_salvaged(&mut self, promises: &[salvage::Promise]) {
+        for &promise in promises {
+            self.count(Met::Salvaged { promise });
         }
     }
 

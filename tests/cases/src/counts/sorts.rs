@@ -18,6 +18,7 @@ macro_rules! sorts {
         }
     };
 }
+pub(super) use sorts;
 
 sorts!(FrameSort {
     WrappedPage,
@@ -78,7 +79,7 @@ sorts!(ScriptSort { Empty, LongestScript, MicrosecondsOver32Bits });
 
 sorts!(TimeSort { AtRest, BusyGoesOn, BusyEnds, AaiStays, AaiEnds });
 
-fn holding<T: Copy, const N: usize>(sorts: [(bool, T); N]) -> impl Iterator<Item = T> {
+pub fn holding<T: Copy, const N: usize>(sorts: [(bool, T); N]) -> impl Iterator<Item = T> {
     sorts.into_iter().filter_map(|(holds, sort)| holds.then_some(sort))
 }
 

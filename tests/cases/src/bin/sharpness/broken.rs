@@ -3,9 +3,7 @@
 use std::collections::BTreeMap;
 use std::fmt::Debug;
 
-use model::Fault;
-
-/// What a copy breaks, each with the number of the first script or plan that shows it.
+/// What a copy breaks, each with the number of the first script, plan or sector that shows it.
 pub struct Broken<T>(BTreeMap<T, usize>);
 
 impl<T> Default for Broken<T> {
@@ -28,7 +26,7 @@ impl<T: Copy + Debug + Ord> Broken<T> {
     }
 
     /// What the copy with this fault has to break by the table, and doesn't.
-    pub fn missing(&self, fault: Fault, have_to_break: &[(Fault, T)]) -> Vec<String> {
+    pub fn missing<F: PartialEq>(&self, fault: F, have_to_break: &[(F, T)]) -> Vec<String> {
         let own = have_to_break.iter().filter(|(copy, _)| *copy == fault);
         let missing = own.filter(|(_, what)| !self.has(*what));
         missing.map(|(_, what)| format!("{what:?}")).collect()
