@@ -5,12 +5,13 @@ ghost use Prim.Native.Nat.{_≤_};
 ghost use lib.ListN.{length, drop};
 ghost use Rattle.names.specs.Records.{front, frontLength};
 
+// A record begins with these two bytes;
 const FIRST_MARK: u8 = 0x4e;
 
 const SECOND_MARK: u8 = 0x52;
 
-// The mark and the name's length, before the name.
-pub const HEAD: usize = 3;
+// with the name's length they stand before the name.
+const HEAD: usize = 3;
 
 // How long the record at a place is; 0, which no record is, where no whole good one stands there.
 pub fn record_at(bytes: &[u8], at: usize) -> usize

@@ -40,7 +40,7 @@ pub fn salvage(sector: &[u8], kept: &mut [u8], dropped: &mut [u8]) -> Salvaged
         return refuse(refusals::BUFFER_TOO_SHORT);
     }
     let size = pieces::put_pieces(used, kept, dropped);
-    common::runs::fill_run(kept, size, SECTOR, 0xff);
+    common::runs::fill_run(kept, size, SECTOR, used::ERASED);
     Salvaged {
         number: 0,
         length: length as u32,

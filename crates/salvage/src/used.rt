@@ -2,7 +2,7 @@
 ghost use mathlib.Core.Path.{_≡_};
 ghost use Rattle.salvage.specs.Pieces.{usedLength, usedPart};
 
-const ERASED: u8 = 0xff;
+pub const ERASED: u8 = 0xff;
 
 fn used_length(sector: &[u8]) -> usize
     ensures { λ r. ⌜ r ≡ usedLength (now (sector .entry)) ⌝ }
