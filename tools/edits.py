@@ -42,7 +42,9 @@ def first_error(crate, name):
     if any(u in text for u in UNFIT):
         return where, claim, None
     wall = next((why for said, why in WALLS.items() if said in text), None)
-    pair = re.search(r'one has `((?!c \.)[^`]{1,40})`\s*\(expected\).{0,80}?the other has `([^`]{1,40})`', log, re.S)
+    # what is computed says it shortest; a name of the logic's own says nothing
+    said = r'one has `((?!c \.|borrow|lib)[^`]{1,40})`\s*\(expected\).{0,80}?the other has `([^`]{1,40})`'
+    pair = re.search('computed as far as they go, the two types differ only where ' + said, log, re.S) or re.search(said, log, re.S)
     if wall:
         why = wall
     elif text.startswith('`omega`'):

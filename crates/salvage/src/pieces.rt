@@ -65,7 +65,8 @@ fn put_stretch(start: usize, count: usize, list: &mut [u8], at: usize) -> usize
 
 // The records and the list, each laid from the front of its buffer; gives the length of the records.
 pub fn put_pieces(bytes: &[u8], kept: &mut [u8], list: &mut [u8]) -> usize
-    requires { ⌜ (length (now bytes) ≤ 4096) × (length (now bytes) ≤ length (now kept)) × (length (listBytes (stretchesFrom 0 (piecesIn (now bytes)))) ≤ length (now list)) ⌝ }
+    requires { ⌜ (length (now bytes) ≤ 4096) × (length (now bytes) ≤ length (now kept)) ⌝ }
+    requires { ⌜ length (listBytes (stretchesFrom 0 (piecesIn (now bytes)))) ≤ length (now list) ⌝ }
     ensures { λ r. ⌜ PiecesPut (now (bytes .entry)) (now (kept .entry)) (now (kept .exit)) (now (list .entry)) (now (list .exit)) r ⌝ }
 {
     let mut at: usize = 0;

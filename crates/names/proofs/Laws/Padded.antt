@@ -147,7 +147,8 @@ padded-filled bytes buffer n e fits sized =
         let below : i < 4096 = omega (arith, h, length-mapi (onRun n 4096 (λ k x. 0xff)) laid, long) in
         getD-mapi (onRun n 4096 (λ k x. 0xff)) laid i 0 (omega (arith, below, long))
         ∙ ⊎-elim
-        (λ less. rw (lt-leb n i less) (getD-front bytes (drop (length bytes) buffer) i (omega arith) ∙ sym (getD-front bytes (replicate (4096 - length bytes) 0xff) i (omega arith))))
+        (λ less. rw (lt-leb n i less)
+        (getD-front bytes (drop (length bytes) buffer) i (omega arith) ∙ sym (getD-front bytes (replicate (4096 - length bytes) 0xff) i (omega arith))))
         (λ from. rw (le-leb n i from, lt-ltb i 4096 below)
         (sym (getD-behind bytes (replicate (4096 - length bytes) 0xff) i (omega arith)
         ∙ getD-replicate (4096 - length bytes) (i - length bytes) 0xff 0 (omega (arith, below)))))

@@ -229,7 +229,13 @@ module _ (sector kept₀ dropped₀ keptAfter droppedAfter : List ℕ) (r : Salv
     rest-untouched : (length droppedAfter ≡ length dropped₀) × (drop (r .length) droppedAfter ≡ drop (r .length) dropped₀)
     rest-untouched =
         let rest : List ℕ = drop (length (droppedBytes sector)) dropped₀ in (
-          omega (arith, ap length laid, length-append (droppedBytes sector) rest, length-drop (length (droppedBytes sector)) dropped₀, opened sector kept₀ dropped₀ (sym number ∙ done) .list-fits),
+          omega (
+            arith,
+            ap length laid,
+            length-append (droppedBytes sector) rest,
+            length-drop (length (droppedBytes sector)) dropped₀,
+            opened sector kept₀ dropped₀ (sym number ∙ done) .list-fits,
+          ),
           rw (listed-length, laid) (drop-append-seam (droppedBytes sector) rest),
         )
 

@@ -29,7 +29,8 @@ salvaged-reads-back image = padded-reads-back (keptNames (piecesIn (usedPart ima
 walk-begins : (bytes : List ℕ) → Begins (namesOf bytes) (keptNames (piecesIn bytes))
 unfolding keptNames
 walk-begins =
-    pieces-by (λ bytes pieces. Begins (namesOf bytes) (keptNames pieces)) record { more = []; all-are = sym (ap (λ (l : List (List ℕ)). l ++ []) (names-none [] front-nil)) }
+    pieces-by (λ bytes pieces. Begins (namesOf bytes) (keptNames pieces))
+    record { more = []; all-are = sym (ap (λ (l : List (List ℕ)). l ++ []) (names-none [] front-nil)) }
     (λ x bytes nothing behind. rw (names-none (x ∷ bytes) nothing) record { more = _; all-are = refl })
     (λ bytes name rest is behind.
     rw (names-item bytes is) record { more = behind .more; all-are = ap (λ (l : List (List ℕ)). name ∷ l) (behind .all-are) })

@@ -35,6 +35,19 @@ pub room-enough : (sector : List ℕ) → length sector ≤ 4096 → length (dro
 unfolding droppedBytes piecesOf
 room-enough sector h = list-most (usedPart sector) (omega (arith, used-part-length sector, used-is sector .inside))
 
+-- the used bytes, as the walks are lent them
+module _ (sector used : List ℕ) (used-are : used ≡ usedPart sector) where
+  pub used-most : length sector ≡ 4096 → length used ≤ 4096
+  used-most h = omega (arith, ap length used-are, used-part-length sector, used-is sector .inside)
+
+  pub list-is : listBytes (stretchesFrom 0 (piecesIn used)) ≡ droppedBytes sector
+  unfolding droppedBytes piecesOf
+  list-is = rw used-are refl
+
+  records-are : recordsBytes true (keptNames (piecesIn used)) ≡ keptBytes sector
+  unfolding keptBytes piecesOf
+  records-are = rw used-are refl
+
 -- ---- of one call
 
 module _ (sector kept dropped : List ℕ) where
@@ -109,19 +122,8 @@ module _ (sector kept dropped : List ℕ) where
 
   -- the walks over the used bytes, and what is filled up
   module _ (used : List ℕ) (used-are : used ≡ usedPart sector) where
-    pub used-most : length sector ≡ 4096 → length used ≤ 4096
-    used-most h = omega (arith, ap length used-are, used-part-length sector, used-is sector .inside)
-
-    pub list-is : listBytes (stretchesFrom 0 (piecesIn used)) ≡ droppedBytes sector
-    unfolding droppedBytes piecesOf
-    list-is = rw used-are refl
-
-    records-are : recordsBytes true (keptNames (piecesIn used)) ≡ keptBytes sector
-    unfolding keptBytes piecesOf
-    records-are = rw used-are refl
-
     pub size-is : {laid after : List ℕ} {size : ℕ} → PiecesPut used kept laid dropped after size → size ≡ length (keptBytes sector)
-    size-is p = p .records-put .behind ∙ omega (arith, ap length records-are)
+    size-is p = p .records-put .behind ∙ omega (arith, ap length (records-are sector used used-are))
 
     pub salvages-all : {laid keptAfter droppedAfter : List ℕ} {size : ℕ} (n : ℕ) → salvageRefusal sector kept dropped ≡ 0 → length sector ≡ 4096 → length kept ≡ 4096
         → n ≡ length (listBytes (stretchesFrom 0 (piecesIn used))) → PiecesPut used kept laid dropped droppedAfter size
@@ -129,10 +131,10 @@ module _ (sector kept dropped : List ℕ) where
         → Salvages sector kept dropped keptAfter droppedAfter record { number = 0; length = n; kept = size }
     salvages-all {laid} {keptAfter} {droppedAfter} {size} n e long room l p f =
         rw (
-          f ∙ ap (mapi (onRun size 4096 (λ k x. 0xff))) (p .records-put .stored ∙ ap (λ (bytes : List ℕ). written 0 bytes kept) records-are)
+          f ∙ ap (mapi (onRun size 4096 (λ k x. 0xff))) (p .records-put .stored ∙ ap (λ (bytes : List ℕ). written 0 bytes kept) (records-are sector used used-are))
               ∙ padded-filled (keptBytes sector) kept size (size-is p) (omega (arith, size-is p, kept-most sector)) room,
-          p .list-put ∙ ap (λ (bytes : List ℕ). written 0 bytes dropped) list-is,
-          l ∙ ap length list-is,
+          p .list-put ∙ ap (λ (bytes : List ℕ). written 0 bytes dropped) (list-is sector used used-are),
+          l ∙ ap length (list-is sector used used-are),
           size-is p,
         ) (salvages-given e)
 

@@ -39,7 +39,9 @@ is-name-byte-requires : tie.Need-is-name-byte-requires Inv-loop μ-loop
 is-name-byte-requires c κs = search needs
 
 returns : tie.Need-returns Inv-loop μ-loop
-returns c = let l = c .before .before .before .before .loop in all-bad (Bytes (c .before .before .before .before)) (l .i) (l .inv) (omega arith) (sym (c .before .is-name-byte .ensures) ∙ not-true _ (c .if1 .taken))
+returns c =
+    let l = c .before .before .before .before .loop in
+    all-bad (Bytes (c .before .before .before .before)) (l .i) (l .inv) (omega arith) (sym (c .before .is-name-byte .ensures) ∙ not-true _ (c .if1 .taken))
 
 add-is-name-byte : tie.Need-add-is-name-byte Inv-loop μ-loop
 add-is-name-byte c = search needs
@@ -51,7 +53,9 @@ is-name-byte-requires-2 : tie.Need-is-name-byte-requires-2 Inv-loop μ-loop
 is-name-byte-requires-2 c κs = search needs
 
 returns-2 : tie.Need-returns-2 Inv-loop μ-loop
-returns-2 c = all-bad (Bytes (c .before .before .before .before .before .before .before)) _ (second (c .before .before .before)) (omega arith) (sym (c .before .is-name-byte2 .ensures) ∙ not-true _ (c .if2 .taken))
+returns-2 c =
+    all-bad (Bytes (c .before .before .before .before .before .before .before)) _ (second (c .before .before .before)) (omega arith)
+    (sym (c .before .is-name-byte2 .ensures) ∙ not-true _ (c .if2 .taken))
 
 add-i : tie.Need-add-i Inv-loop μ-loop
 add-i c = search needs
@@ -63,7 +67,9 @@ loop-again : tie.Need-loop-again Inv-loop μ-loop
 loop-again c =
     let i = c .before .before .before .before .before .before .before .loop .i in
     let two : i + 1 + 1 ≡ i + 2 = omega arith in
-    rw two at (all-turn (Bytes (c .before .before .before .before .before .before .before)) (i + 1) (second (c .before .before .before)) (omega arith) (sym (c .before .is-name-byte2 .ensures) ∙ not-false _ (c .if2 .left)))
+    rw two
+    at (all-turn (Bytes (c .before .before .before .before .before .before .before)) (i + 1) (second (c .before .before .before)) (omega arith)
+    (sym (c .before .is-name-byte2 .ensures) ∙ not-false _ (c .if2 .left)))
 
 shared-slice-read-is-name-byte-3 : tie.Need-shared-slice-read-is-name-byte-3 Inv-loop μ-loop
 shared-slice-read-is-name-byte-3 c = search needs
@@ -72,7 +78,9 @@ is-name-byte-requires-3 : tie.Need-is-name-byte-requires-3 Inv-loop μ-loop
 is-name-byte-requires-3 c κs = search needs
 
 returns-3 : tie.Need-returns-3 Inv-loop μ-loop
-returns-3 c = let l = c .before .before .before .before .loop in c .is-name-byte3 .ensures ∙ all-last (Bytes (c .before .before .before .before)) (l .i) (l .inv) (c .before .before .if3 .taken) (omega arith)
+returns-3 c =
+    let l = c .before .before .before .before .loop in
+    c .is-name-byte3 .ensures ∙ all-last (Bytes (c .before .before .before .before)) (l .i) (l .inv) (c .before .before .if3 .taken) (omega arith)
 
 returns-4 : tie.Need-returns-4 Inv-loop μ-loop
 returns-4 c = let l = c .before .before .loop in all-end (Bytes (c .before .before)) (l .i) (l .inv) (c .if3 .left)

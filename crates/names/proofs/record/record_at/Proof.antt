@@ -57,7 +57,8 @@ returns-5 : tie.Need-returns-5
 returns-5 c =
     let a = c .before .before .before .before .before .before .before .before .before .before .args in
     let n = c .before .wide in
-    reads-cut (a .bytes .now) (a .at) (omega arith) (c .before .before .before .before .before .before .if2 .left) (c .before .before .before .if4 .left) (n .result) (n .ensures .0) (c .if5 .taken)
+    reads-cut (a .bytes .now) (a .at) (omega arith) (c .before .before .before .before .before .before .if2 .left) (c .before .before .before .if4 .left)
+    (n .result) (n .ensures .0) (c .if5 .taken)
 
 add-end : tie.Need-add-end
 add-end c = search needs
@@ -80,8 +81,9 @@ returns-6 c =
     let n = c .before .before .before .before .wide in
     let same : a .at + 3 + n .result - (a .at + 3) ≡ n .result = omega arith in
     let told = rw same at (c .before .is-name .ensures) in
-    reads-bad (a .bytes .now) (a .at) (omega arith) (c .before .before .before .before .before .before .before .before .before .if2 .left) (c .before .before .before .before .before .before .if4 .left) (n .result) (n .ensures .0) (c .before .before .before .if5 .left)
-    (sym told ∙ not-true _ (c .if6 .taken))
+    reads-bad (a .bytes .now) (a .at) (omega arith)
+    (c .before .before .before .before .before .before .before .before .before .if2 .left) (c .before .before .before .before .before .before .if4 .left)
+    (n .result) (n .ensures .0) (c .before .before .before .if5 .left) (sym told ∙ not-true _ (c .if6 .taken))
 
 add-result : tie.Need-add-result
 add-result c = search needs
@@ -92,8 +94,9 @@ returns-7 c =
     let n = c .before .before .before .before .wide in
     let same : a .at + 3 + n .result - (a .at + 3) ≡ n .result = omega arith in
     let told = rw same at (c .before .is-name .ensures) in
-    reads-name (a .bytes .now) (a .at) (omega arith) (c .before .before .before .before .before .before .before .before .before .if2 .left) (c .before .before .before .before .before .before .if4 .left) (n .result) (n .ensures .0) (c .before .before .before .if5 .left)
-    (sym told ∙ not-false _ (c .if6 .left))
+    reads-name (a .bytes .now) (a .at) (omega arith)
+    (c .before .before .before .before .before .before .before .before .before .if2 .left) (c .before .before .before .before .before .before .if4 .left)
+    (n .result) (n .ensures .0) (c .before .before .before .if5 .left) (sym told ∙ not-false _ (c .if6 .left))
 
 pub record-at-spec : {M : Type 1} → statement M
 record-at-spec =

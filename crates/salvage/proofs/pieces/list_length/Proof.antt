@@ -17,7 +17,8 @@ abbrev μ-loop : tie.MeasureT-loop
 μ-loop bytes at₀ listed₀ at listed = length bytes - at
 
 -- the record that is kept
-kept : (c : tie.Else1 Inv-loop μ-loop) → KeptAt (c .before .before .before .before .before .args .bytes .now) (c .before .before .before .loop .at) (c .before .record-at .result)
+kept : (c : tie.Else1 Inv-loop μ-loop)
+    → KeptAt (c .before .before .before .before .before .args .bytes .now) (c .before .before .before .loop .at) (c .before .record-at .result)
 kept c = kept-at _ _ _ (c .before .record-at .ensures) (c .if1 .left)
 
 loop-holds : tie.Need-loop-holds Inv-loop μ-loop

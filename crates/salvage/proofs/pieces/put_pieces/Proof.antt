@@ -17,11 +17,12 @@ abbrev μ-loop : tie.MeasureT-loop
 μ-loop bytes kept₀ list₀ at₀ size₀ listed₀ kept list at size listed = length bytes - at
 
 -- the record that is kept
-kept-here : (c : tie.Else1 Inv-loop μ-loop) → KeptAt (c .before .before .before .before .before .before .before .args .bytes .now) (c .before .before .before .loop .at) (c .before .record-at .result)
+kept-here : (c : tie.Else1 Inv-loop μ-loop)
+    → KeptAt (c .before .before .before .before .before .before .before .args .bytes .now) (c .before .before .before .loop .at) (c .before .record-at .result)
 kept-here c = kept-at _ _ _ (c .before .record-at .ensures) (c .if1 .left)
 
 loop-holds : tie.Need-loop-holds Inv-loop μ-loop
-loop-holds c = laying-start _ _ _ (c .before .before .before .pre .1) (c .before .before .before .pre .2)
+loop-holds c = laying-start _ _ _ (c .before .before .before .pre .0 .1) (c .before .before .before .pre .1)
 
 record-at-requires : tie.Need-record-at-requires Inv-loop μ-loop
 record-at-requires c κs = c .before .loop .inv .inside
@@ -35,7 +36,7 @@ sub-put-stretch c = omega (arith, c .stretch-end .ensures .onward)
 put-stretch-requires : tie.Need-put-stretch-requires Inv-loop μ-loop
 put-stretch-requires c κs =
     let s = c .before .stretch-end .ensures in
-    let b = c .before .before .before .before .before .before .before .before .before .pre .0 in
+    let b = c .before .before .before .before .before .before .before .before .before .pre .0 .0 in
     (omega (arith, s .onward, s .inside, b), omega (arith, s .inside, b), entry-room _ _ _ _ _ _ _ _ _ s (c .before .before .before .before .before .loop .inv))
 
 loop-less : tie.Need-loop-less Inv-loop μ-loop
