@@ -9,3 +9,4 @@ pub mod Refusals
 pub mod Bits
 pub mod Flags
 pub mod Buffer
+pub mod Turns

@@ -1,19 +1,28 @@
--- The laws of `mapi`, `tab` and `upTo`: one place at a time, and one turn of a loop.
+-- Lists one behind another, and the laws of `mapi`, `tab` and `upTo`: one place at a time, and one turn of a loop.
 -- Assumes nothing.
 use mathlib.Core.Path.{_≡_, refl, sym, ap, _∙_}
-use mathlib.Core.List.{List, [], _∷_}
+use mathlib.Core.List.{List, [], _∷_, _++_}
 use mathlib.Core.Logic.{⊎-elim, _⊎_, inl, inr}
-use Prim.Native.Nat.{ℕ, zero, suc, _+_, _≤_, _<_}
+use Prim.Native.Nat.{ℕ, zero, suc, _+_, _-_, _≤_, _<_}
 use native.Mathlib.Nat.{le-of-suc-le-suc, not-suc-le-zero}
 use native.Mathlib.Omega.{arith}
 use native.Mathlib.Decide.{ℕ-discrete, decLt}
 use lib.ListN.{length, getD, set, length-set}
-use lib.Seq.{ext-getD, getD-set-same, getD-set-other}
+use lib.Seq.{getD-append-add, ext-getD, getD-set-same, getD-set-other}
 use borrow.Author.Tests.{lt-ltb, le-ltb}
 use Rattle.common.specs.Lists.{mapi, tab, upTo}
 
 pub split : (k i : ℕ) → (k < i) ⊎ (i ≤ k)
 split k i = elim (decLt k i) [ yes h ↦ inl h | no h ↦ inr (omega arith) ]
+
+-- one list behind another
+pub getD-front : (xs ys : List ℕ) (i : ℕ) → i < length xs → getD (xs ++ ys) i 0 ≡ getD xs i 0
+getD-front [] ys i h = absurd (not-suc-le-zero h)
+getD-front (x ∷ xs) ys zero h = refl
+getD-front (x ∷ xs) ys (suc i) h = getD-front xs ys i (le-of-suc-le-suc h)
+
+pub getD-behind : (xs ys : List ℕ) (i : ℕ) → length xs ≤ i → getD (xs ++ ys) i 0 ≡ getD ys (i - length xs) 0
+getD-behind xs ys i h = let there : length xs + (i - length xs) ≡ i = omega arith in rw there at (getD-append-add xs ys (i - length xs) 0)
 
 pub length-mapi : (f : ℕ → ℕ → ℕ) (l : List ℕ) → length (mapi f l) ≡ length l
 length-mapi f [] = refl

@@ -7,6 +7,7 @@ use Prim.Native.Nat.{ℕ, zero, suc, _≤_, _<_}
 use native.Mathlib.Nat.{le-refl}
 use native.Mathlib.Omega.{arith}
 use lib.ListN.{length}
+use Rattle.common.proofs.Laws.Turns.{turns-same, by-length}
 use Rattle.names.specs.Records.{Front, none, item, front, namesOn, namesWithin, namesOf, recordBytes, recordsBytes, AllNames}
 use Rattle.names.proofs.Laws.Front.{front-record, front-item, item-long}
 
@@ -14,22 +15,21 @@ use Rattle.names.proofs.Laws.Front.{front-record, front-item, item-long
 pub rest-shorter : (bytes : List ℕ) {name rest : List ℕ} → front bytes ≡ item name rest → length rest < length bytes
 rest-shorter bytes e = omega (arith, item-long bytes e .in-all)
 
--- where the bytes are at most as many as the turns, more turns read the same
 within-on : (n m : ℕ) (bytes : List ℕ) (f : Front) → front bytes ≡ f
     → ((rest : List ℕ) → length rest < length bytes → namesWithin n rest ≡ namesWithin m rest)
     → namesOn f (namesWithin n) ≡ namesOn f (namesWithin m)
 within-on n m bytes none e go = refl
 within-on n m bytes (item name rest) e go = ap (λ (l : List (List ℕ)). name ∷ l) (go rest (rest-shorter bytes e))
 
-within-same : (n m : ℕ) (bytes : List ℕ) → length bytes ≤ n → length bytes ≤ m → namesWithin n bytes ≡ namesWithin m bytes
+within-end : (n : ℕ) → namesWithin n [] ≡ []
 unfolding namesWithin front
-within-same zero zero bytes a b = refl
-within-same zero (suc m) [] a b = refl
-within-same zero (suc m) (x ∷ bytes) a b = absurd (omega arith)
-within-same (suc n) zero [] a b = refl
-within-same (suc n) zero (x ∷ bytes) a b = absurd (omega arith)
-within-same (suc n) (suc m) bytes a b =
-    within-on n m bytes (front bytes) refl (λ rest h. within-same n m rest (omega arith) (omega arith))
+within-end zero = refl
+within-end (suc n) = refl
+
+-- where the bytes are at most as many as the turns, more turns read the same
+within-same : (n m : ℕ) (bytes : List ℕ) → length bytes ≤ n → length bytes ≤ m → namesWithin n bytes ≡ namesWithin m bytes
+unfolding namesWithin
+within-same = turns-same namesWithin (λ n. within-end n ∙ sym (within-end 0)) (λ n m bytes go. within-on n m bytes (front bytes) refl go)
 
 -- ---- one record after another
 
@@ -83,12 +83,8 @@ split-on : (image : List ℕ) (f : Front) → front image ≡ f → ((rest : Lis
 split-on image none e behind = rw (names-none image e) (split-none image e)
 split-on image (item name rest) e behind = rw (names-item image e) (split-item image e (behind rest (rest-shorter image e)))
 
-split-within : (n : ℕ) (image : List ℕ) → length image ≤ n → Split image (namesOf image)
-split-within zero image h = split-on image (front image) refl (λ rest l. absurd (omega arith))
-split-within (suc n) image h = split-on image (front image) refl (λ rest l. split-within n rest (omega arith))
-
 pub names-split : (image : List ℕ) → Split image (namesOf image)
-names-split image = split-within (length image) image (le-refl (length image))
+names-split = by-length (λ image. Split image (namesOf image)) (λ image behind. split-on image (front image) refl behind)
 
 -- and that fixes them
 pub names-determined : (image : List ℕ) (names : List (List ℕ)) → Split image names → names ≡ namesOf image

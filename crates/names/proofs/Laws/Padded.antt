@@ -15,7 +15,7 @@ use Rattle.common.specs.Buffer.{written}
 use Rattle.common.specs.Lists.{mapi, onRun}
 use Rattle.common.proofs.Laws.Booleans.{and-r}
 use Rattle.common.proofs.Laws.Buffer.{written-front}
-use Rattle.common.proofs.Laws.Lists.{split, length-mapi, getD-mapi}
+use Rattle.common.proofs.Laws.Lists.{split, getD-front, getD-behind, length-mapi, getD-mapi}
 use Rattle.names.specs.Records.{allName, isName, Front, none, item, front, namesOf, recordBytes, recordsBytes, AllNames, padded}
 use Rattle.names.proofs.Laws.Front.{name-most, name-all, all-exactly, front-nil, front-record, front-item}
 use Rattle.names.proofs.Laws.Names.{names-none, names-append, names-split, names-determined}
@@ -27,11 +27,22 @@ all-below name i good h =
     let byte : ℕ = getD name i 0 in
     omega (arith, leb-true byte 0x7e (and-r (leb 0x20 byte) (leb byte 0x7e) (all-exactly name .when good i h)))
 
-pub record-below : (name : List ℕ) (i : ℕ) → isName name ≡ true → i < 3 + length name → getD (recordBytes true name) i 0 < 0xff
+record-below : (name : List ℕ) (i : ℕ) → isName name ≡ true → i < 3 + length name → getD (recordBytes true name) i 0 < 0xff
 record-below name zero good h = omega arith
 record-below name (suc zero) good h = omega arith
 record-below name (suc (suc zero)) good h = omega (arith, name-most name good)
 record-below name (suc (suc (suc i))) good h = all-below name i (name-all name good) (omega arith)
+
+pub records-below : (names : List (List ℕ)) (i : ℕ) → AllNames names → i < length (recordsBytes true names) → getD (recordsBytes true names) i 0 < 0xff
+unfolding recordsBytes
+records-below [] i good h = absurd (omega arith)
+records-below (name ∷ names) i good h =
+    let record-is : List ℕ = recordBytes true name in
+    let rest : List ℕ = recordsBytes true names in
+    ⊎-elim
+    (λ first. rw (getD-front record-is rest i (omega arith)) (record-below name i (good .0) (omega arith)))
+    (λ later. rw (getD-behind record-is rest i (omega arith)) (records-below names (i - length record-is) (good .1) (omega (arith, h, length-append record-is rest))))
+    (split i (3 + length name))
 
 -- ---- what stands at the front of some bytes
 
@@ -42,11 +53,6 @@ front-more bytes more {name} {rest} e =
     rw (i .is) (ap front (append-assoc (recordBytes true name) rest more) ∙ front-record name (rest ++ more) (i .good))
 
 -- the bytes of a record at the front, and each of them
-pub getD-front : (xs ys : List ℕ) (i : ℕ) → i < length xs → getD (xs ++ ys) i 0 ≡ getD xs i 0
-getD-front [] ys i h = absurd (omega arith)
-getD-front (x ∷ xs) ys zero h = refl
-getD-front (x ∷ xs) ys (suc i) h = getD-front xs ys i (omega arith)
-
 record-front : (name rest : List ℕ) → take (3 + length name) (recordBytes true name ++ rest) ≡ recordBytes true name
 record-front name rest = take-at (recordBytes true name) rest (3 + length name) (omega arith)
 
@@ -111,9 +117,6 @@ padded-reads-back names good =
     ∙ append-nil names
 
 -- ---- laid into a sector's buffer
-
-pub getD-behind : (xs ys : List ℕ) (i : ℕ) → length xs ≤ i → getD (xs ++ ys) i 0 ≡ getD ys (i - length xs) 0
-getD-behind xs ys i h = let there : length xs + (i - length xs) ≡ i = omega arith in rw there at (getD-append-add xs ys (i - length xs) 0)
 
 -- bytes laid at the front, and the rest filled with FF
 pub padded-filled : (bytes buffer : List ℕ) (n : ℕ) → n ≡ length bytes → n ≤ 4096 → length buffer ≡ 4096

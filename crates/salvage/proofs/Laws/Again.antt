@@ -3,19 +3,16 @@
 use mathlib.Core.Path.{_≡_, refl, sym, ap, _∙_}
 use mathlib.Core.Bool.{true}
 use mathlib.Core.List.{List, [], _∷_, _++_}
-use mathlib.Core.Logic.{⊎-elim}
-use Prim.Native.Nat.{ℕ, _+_, _-_, _<_}
+use Prim.Native.Nat.{ℕ, _+_, _-_}
 use native.Mathlib.Omega.{arith}
-use lib.ListN.{length, getD, replicate, length-append, length-replicate, getD-replicate}
-use lib.Seq.{take-append-seam}
-use Rattle.common.proofs.Laws.Lists.{split}
+use lib.ListN.{length, replicate}
 use Rattle.names.specs.Records.{AllNames, namesOf, Begins, recordBytes, recordsBytes, padded}
 use Rattle.names.proofs.Laws.Front.{front-nil, front-record, front-item}
 use Rattle.names.proofs.Laws.Names.{names-none, names-item}
-use Rattle.names.proofs.Laws.Padded.{getD-front, getD-behind, record-below, names-erased-behind, padded-reads-back}
+use Rattle.names.proofs.Laws.Padded.{records-below, names-erased-behind, padded-reads-back}
 use Rattle.salvage.specs.Pieces.{Piece, kept, dropped, dropByte, piecesIn, usedLength, usedPart, piecesOf, keptNames, keptBytes, stretchesFrom, listBytes, droppedBytes}
 use Rattle.salvage.proofs.Laws.Pieces.{pieces-nil, pieces-item, pieces-by}
-use Rattle.salvage.proofs.Laws.Used.{Used, used-exactly, used-part-length, used-split}
+use Rattle.salvage.proofs.Laws.Used.{used-part-length, used-split, used-part-all, used-part-erased}
 use Rattle.salvage.proofs.Laws.Kept.{kept-good}
 
 -- ---- a reader finds every kept name
@@ -67,46 +64,18 @@ unfolding stretchesFrom listBytes
 all-kept-list at [] = refl
 all-kept-list at (name ∷ names) = all-kept-list (at + (3 + length name)) names
 
--- none of its records' bytes is FF
-records-below : (names : List (List ℕ)) (i : ℕ) → AllNames names → i < length (recordsBytes true names) → getD (recordsBytes true names) i 0 < 0xff
-unfolding recordsBytes
-records-below [] i good h = absurd (omega arith)
-records-below (name ∷ names) i good h =
-    let record-is : List ℕ = recordBytes true name in
-    let rest : List ℕ = recordsBytes true names in
-    ⊎-elim
-    (λ first. rw (getD-front record-is rest i (omega arith)) (record-below name i (good .0) (omega arith)))
-    (λ later. rw (getD-behind record-is rest i (omega arith)) (records-below names (i - length record-is) (good .1) (omega (arith, h, length-append record-is rest))))
-    (split i (3 + length name))
-
--- so they are what is used
-module _ (names : List (List ℕ)) (good : AllNames names) (m : ℕ) where
-  abbrev bytes : List ℕ
-  bytes = recordsBytes true names
-
-  records-used : Used (bytes ++ replicate m 0xff) (length bytes)
-  records-used = record {
-    inside = omega (arith, length-append bytes (replicate m 0xff));
-    erased = λ k from below.
-        getD-behind bytes (replicate m 0xff) k from
-        ∙ getD-replicate m (k - length bytes) 0xff 0 (omega (arith, below, length-append bytes (replicate m 0xff), length-replicate {A = ℕ} m 0xff));
-    last = λ k e q.
-        omega (arith, records-below names k good (omega arith), sym (getD-front bytes (replicate m 0xff) k (omega arith)) ∙ q);
-  }
-
-  clean-pieces : piecesOf (bytes ++ replicate m 0xff) ≡ allKept names
-  unfolding piecesOf usedPart
-  clean-pieces =
-      rw (sym (used-exactly (bytes ++ replicate m 0xff) (length bytes) records-used), take-append-seam bytes (replicate m 0xff)) (pieces-records names good)
-
 -- it comes back as it is, with nothing dropped
 module _ (names : List (List ℕ)) (good : AllNames names) where
   abbrev clean : List ℕ
   clean = padded (recordsBytes true names)
 
+  -- no byte of a record is FF, so the records are what is used
   clean-walk : piecesOf clean ≡ allKept names
-  unfolding padded
-  clean-walk = clean-pieces names good (4096 - length (recordsBytes true names))
+  unfolding padded piecesOf
+  clean-walk =
+      let bytes : List ℕ = recordsBytes true names in
+      ap piecesIn (used-part-erased bytes (4096 - length bytes) ∙ used-part-all bytes (λ k e q. omega (arith, records-below names k good (omega arith), q)))
+      ∙ pieces-records names good
 
   pub clean-kept : keptBytes clean ≡ recordsBytes true names
   unfolding keptBytes

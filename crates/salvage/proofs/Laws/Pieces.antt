@@ -8,6 +8,7 @@ use native.Mathlib.Numerals.{add-one}
 use native.Mathlib.Omega.{arith}
 use lib.ListN.{length, getD, drop, drop-of-length-le}
 use lib.Seq.{drop-cons}
+use Rattle.common.proofs.Laws.Turns.{turns-same, by-length}
 use Rattle.names.specs.Records.{Front, none, item, front, frontLength}
 use Rattle.names.proofs.Laws.Front.{found}
 use Rattle.names.proofs.Laws.Names.{rest-shorter}
@@ -22,17 +23,20 @@ within-on : (n m : ℕ) (x : ℕ) (bytes : List ℕ) (f : Front) → front (x �
 within-on n m x bytes none e go = ap dropByte (go bytes (le-refl (length bytes)))
 within-on n m x bytes (item name rest) e go = ap (λ (l : List Piece). kept name ∷ l) (go rest (omega (arith, rest-shorter (x ∷ bytes) e)))
 
+within-end : (n : ℕ) → piecesWithin n [] ≡ []
+unfolding piecesWithin
+within-end zero = refl
+within-end (suc n) = refl
+
+within-turn : (n m : ℕ) (bytes : List ℕ) → ((rest : List ℕ) → length rest < length bytes → piecesWithin n rest ≡ piecesWithin m rest)
+    → piecesWithin (suc n) bytes ≡ piecesWithin (suc m) bytes
+unfolding piecesWithin
+within-turn n m [] go = refl
+within-turn n m (x ∷ bytes) go = within-on n m x bytes (front (x ∷ bytes)) refl (λ rest h. go rest (omega arith))
+
 -- where the bytes are at most as many as the turns, more turns find the same
 within-same : (n m : ℕ) (bytes : List ℕ) → length bytes ≤ n → length bytes ≤ m → piecesWithin n bytes ≡ piecesWithin m bytes
-unfolding piecesWithin
-within-same zero zero bytes a b = refl
-within-same zero (suc m) [] a b = refl
-within-same zero (suc m) (x ∷ bytes) a b = absurd (omega arith)
-within-same (suc n) zero [] a b = refl
-within-same (suc n) zero (x ∷ bytes) a b = absurd (omega arith)
-within-same (suc n) (suc m) [] a b = refl
-within-same (suc n) (suc m) (x ∷ bytes) a b =
-    within-on n m x bytes (front (x ∷ bytes)) refl (λ rest h. within-same n m rest (omega arith) (omega arith))
+within-same = turns-same piecesWithin (λ n. within-end n ∙ sym (within-end 0)) within-turn
 
 pub pieces-nil : piecesIn [] ≡ []
 unfolding piecesIn piecesWithin
@@ -63,14 +67,12 @@ module _ (P : List ℕ → List Piece → Type 0)
   walked-on x bytes (item name rest) e behind =
       rw (pieces-item (x ∷ bytes) e) (at-item (x ∷ bytes) name rest e (behind rest (omega (arith, rest-shorter (x ∷ bytes) e))))
 
-  walked-within : (n : ℕ) (bytes : List ℕ) → length bytes ≤ n → P bytes (piecesIn bytes)
-  walked-within zero [] h = rw pieces-nil at-end
-  walked-within zero (x ∷ bytes) h = absurd (omega arith)
-  walked-within (suc n) [] h = rw pieces-nil at-end
-  walked-within (suc n) (x ∷ bytes) h = walked-on x bytes (front (x ∷ bytes)) refl (λ rest l. walked-within n rest (omega arith))
+  walked : (bytes : List ℕ) → ((rest : List ℕ) → length rest < length bytes → P rest (piecesIn rest)) → P bytes (piecesIn bytes)
+  walked [] behind = rw pieces-nil at-end
+  walked (x ∷ bytes) behind = walked-on x bytes (front (x ∷ bytes)) refl (λ rest h. behind rest (omega arith))
 
   pub pieces-by : (bytes : List ℕ) → P bytes (piecesIn bytes)
-  pieces-by bytes = walked-within (length bytes) bytes (le-refl (length bytes))
+  pieces-by = by-length (λ bytes. P bytes (piecesIn bytes)) walked
 
 -- ---- stretches
 

@@ -7,12 +7,12 @@ use mathlib.Core.Logic.{⊎-elim}
 use Prim.Native.Nat.{ℕ, zero, suc, _+_, _-_, _≤_, _<_}
 use native.Mathlib.Omega.{arith}
 use lib.Dec.{eqb}
-use lib.ListN.{length, getD, take, drop, replicate, length-drop, length-replicate, getD-replicate, take-append-drop}
-use lib.Seq.{length-take-le, getD-drop, ext-getD}
+use lib.ListN.{length, getD, take, drop, replicate, length-drop, length-replicate, getD-replicate, take-append-drop, length-append}
+use lib.Seq.{length-take-le, getD-drop, ext-getD, take-length, take-append-le}
 use borrow.Author.Tests.{eqb-true, eq-eqb}
 use Rattle.common.proofs.Laws.Booleans.{and-l, and-r, and-i}
 use Rattle.common.proofs.Laws.Choice.{cases}
-use Rattle.common.proofs.Laws.Lists.{split}
+use Rattle.common.proofs.Laws.Lists.{split, getD-front, getD-behind}
 use Rattle.salvage.specs.Pieces.{usedOn, usedLength, usedPart}
 
 -- so many bytes are used: FF from there on, and the byte before is none
@@ -98,6 +98,37 @@ used-split image = sym (take-append-drop (usedLength image) image) ∙ ap (λ (l
         let below : i < length image - usedLength image = omega (arith, length-drop (usedLength image) image) in
         getD-drop (usedLength image) image i 0 ∙ used-is image .erased (usedLength image + i) (omega arith) (omega (arith, below))
         ∙ sym (getD-replicate (length image - usedLength image) i 0xff 0 below))
+
+-- a last byte that is not FF: all of it is used
+pub used-part-all : (image : List ℕ) → ((k : ℕ) → suc k ≡ length image → getD image k 0 ≡ 0xff → ⊥) → usedPart image ≡ image
+unfolding usedPart
+used-part-all image last =
+    let all : length image ≡ usedLength image =
+    used-exactly image (length image) record { inside = omega arith; erased = λ k from below. absurd (omega arith); last = last } in
+    rw (sym all) (take-length image)
+
+-- FF behind an image change nothing
+pub used-part-erased : (image : List ℕ) (m : ℕ) → usedPart (image ++ replicate m 0xff) ≡ usedPart image
+unfolding usedPart
+used-part-erased image m = rw (sym same) (take-append-le (usedLength image) image (replicate m 0xff) (u .inside))
+  where
+    u : Used image (usedLength image)
+    u = used-is image
+
+    long : length (image ++ replicate m 0xff) ≡ length image + m
+    long = omega (arith, length-append image (replicate m 0xff), length-replicate {A = ℕ} m 0xff)
+
+    at : (k : ℕ) → usedLength image ≤ k → k < length (image ++ replicate m 0xff) → getD (image ++ replicate m 0xff) k 0 ≡ 0xff
+    at k from below =
+        ⊎-elim (λ first. getD-front image (replicate m 0xff) k first ∙ u .erased k from first)
+        (λ later. getD-behind image (replicate m 0xff) k later ∙ getD-replicate m (k - length image) 0xff 0 (omega (arith, below, long))) (split k (length image))
+
+    same : usedLength image ≡ usedLength (image ++ replicate m 0xff)
+    same = used-exactly (image ++ replicate m 0xff) (usedLength image) record {
+      inside = omega (arith, u .inside, long);
+      erased = at;
+      last = λ k e q. u .last k e (sym (getD-front image (replicate m 0xff) k (omega (arith, u .inside))) ∙ q);
+    }
 
 -- ---- looked for from the end
 

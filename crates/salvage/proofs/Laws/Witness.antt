@@ -3,61 +3,28 @@
 use mathlib.Core.Path.{_≡_, refl, sym, ap, _∙_}
 use mathlib.Core.Bool.{true}
 use mathlib.Core.List.{List, [], _∷_, _++_, append-nil}
-use mathlib.Core.Logic.{⊎-elim}
-use Prim.Native.Nat.{ℕ, zero, suc, _+_, _*_, _-_, _≤_, _<_}
+use Prim.Native.Nat.{ℕ, zero, suc, _+_, _*_, _-_, _≤_}
 use native.Mathlib.Omega.{arith}
 use lib.ListN.{length, getD, replicate, length-append, length-replicate, getD-replicate}
-use lib.Seq.{take-append-le, take-length}
-use Rattle.common.proofs.Laws.Lists.{split}
+use Rattle.common.proofs.Laws.Lists.{getD-behind}
 use Rattle.names.specs.Records.{allName, isName, frontBody, front, namesWithin, namesOf, recordBytes, padded}
 use Rattle.names.proofs.Laws.Front.{front-record}
-use Rattle.names.proofs.Laws.Padded.{getD-front, getD-behind}
 use Rattle.names.proofs.Laws.Reader.{front-unmarked}
 use Rattle.salvage.specs.Pieces.{Piece, kept, dropped, dropByte, piecesWithin, piecesIn, usedLength, usedPart, piecesOf, stretchesFrom, listBytes, droppedBytes}
 use Rattle.salvage.proofs.Laws.Pieces.{pieces-nil, pieces-none, pieces-item, dropBytes, drop-joined, drop-fresh}
-use Rattle.salvage.proofs.Laws.Used.{Used, used-is, used-exactly}
+use Rattle.salvage.proofs.Laws.Used.{used-part-all, used-part-erased}
 
 -- ---- what is used of an image
 
--- FF behind it change no piece of it
-erased-behind : (image : List ℕ) (m : ℕ) → piecesOf (image ++ replicate m 0xff) ≡ piecesOf image
-unfolding piecesOf usedPart
-erased-behind image m =
-    rw (sym same) (ap piecesIn (take-append-le (usedLength image) image (replicate m 0xff) (u .inside)))
-  where
-    u : Used image (usedLength image)
-    u = used-is image
-
-    long : length (image ++ replicate m 0xff) ≡ length image + m
-    long = omega (arith, length-append image (replicate m 0xff), length-replicate {A = ℕ} m 0xff)
-
-    at : (k : ℕ) → usedLength image ≤ k → k < length (image ++ replicate m 0xff) → getD (image ++ replicate m 0xff) k 0 ≡ 0xff
-    at k from below =
-        ⊎-elim (λ first. getD-front image (replicate m 0xff) k first ∙ u .erased k from first)
-        (λ later. getD-behind image (replicate m 0xff) k later ∙ getD-replicate m (k - length image) 0xff 0 (omega (arith, below, long))) (split k (length image))
-
-    same : usedLength image ≡ usedLength (image ++ replicate m 0xff)
-    same = used-exactly (image ++ replicate m 0xff) (usedLength image) record {
-      inside = omega (arith, u .inside, long);
-      erased = at;
-      last = λ k e q. u .last k e (sym (getD-front image (replicate m 0xff) k (omega (arith, u .inside))) ∙ q);
-    }
-
+-- a sector with bytes at its front has their pieces
 pub sector-pieces : (bytes : List ℕ) → piecesOf (padded bytes) ≡ piecesOf bytes
-unfolding padded
-sector-pieces bytes = erased-behind bytes (4096 - length bytes)
+unfolding padded piecesOf
+sector-pieces bytes = ap piecesIn (used-part-erased bytes (4096 - length bytes))
 
--- a last byte that is not FF: all of it is
+-- of an image with a last byte that is not FF all is used
 used-all : (image : List ℕ) (k : ℕ) → suc k ≡ length image → (getD image k 0 ≡ 0xff → ⊥) → piecesOf image ≡ piecesIn image
-unfolding piecesOf usedPart
-used-all image k e last =
-    let all : length image ≡ usedLength image =
-    used-exactly image (length image) record {
-      inside = omega arith;
-      erased = λ j from below. absurd (omega arith);
-      last = λ j h q. let here : j ≡ k = omega arith in last (rw here at q);
-    } in
-    rw (sym all, take-length image) refl
+unfolding piecesOf
+used-all image k e last = ap piecesIn (used-part-all image (λ j h q. let here : j ≡ k = omega arith in last (rw here at q)))
 
 -- ---- the edges, each a sector with these bytes at its front
 
@@ -98,7 +65,7 @@ record-inside = refl
 -- all FF: no piece
 pub all-erased : piecesOf (replicate 4096 0xff) ≡ []
 unfolding piecesOf piecesIn piecesWithin usedPart usedLength
-all-erased = erased-behind [] 4096
+all-erased = ap piecesIn (used-part-erased [] 4096)
 
 -- ---- at the end of a sector
 

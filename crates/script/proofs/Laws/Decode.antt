@@ -8,6 +8,7 @@ use native.Mathlib.Omega.{arith}
 use lib.ListN.{length, drop}
 use Rattle.common.specs.Bits.{Bytes}
 use Rattle.common.proofs.Laws.Bits.{bytes-drop}
+use Rattle.common.proofs.Laws.Turns.{turns-same}
 use Rattle.script.specs.Record.{Record, AllFit, encodeRecord, encode, recordLength, scriptLength, outputLength}
 use Rattle.script.specs.Decode.{Fault, Front, end, item, malformed, front, Decoded, records, badAt, followed, decodeOn, decodeWithin, decode}
 use Rattle.script.proofs.Laws.Records.{output-bound}
@@ -22,15 +23,15 @@ within-on n m bytes (item r rest) e go =
     let i = front-item bytes e in ap (followed r) (go rest (omega (arith, i .length-is, i .least)))
 within-on n m bytes (malformed fault) e go = refl
 
-within-same : (n m : ℕ) (bytes : List ℕ) → length bytes ≤ n → length bytes ≤ m → decodeWithin n bytes ≡ decodeWithin m bytes
+within-end : (n : ℕ) → decodeWithin n [] ≡ records []
 unfolding decodeWithin front
-within-same zero zero bytes a b = refl
-within-same zero (suc m) [] a b = refl
-within-same zero (suc m) (x ∷ bytes) a b = absurd (omega arith)
-within-same (suc n) zero [] a b = refl
-within-same (suc n) zero (x ∷ bytes) a b = absurd (omega arith)
-within-same (suc n) (suc m) bytes a b =
-    within-on n m bytes (front bytes) refl (λ rest h. within-same n m rest (omega arith) (omega arith))
+within-end zero = refl
+within-end (suc n) = refl
+
+within-same : (n m : ℕ) (bytes : List ℕ) → length bytes ≤ n → length bytes ≤ m → decodeWithin n bytes ≡ decodeWithin m bytes
+unfolding decodeWithin
+within-same =
+    turns-same decodeWithin (λ n. within-end n ∙ sym (within-end 0)) (λ n m bytes go. within-on n m bytes (front bytes) refl go)
 
 -- one record after another
 pub decode-end : (bytes : List ℕ) → front bytes ≡ end → decode bytes ≡ records []
