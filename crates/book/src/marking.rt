@@ -21,7 +21,7 @@ pub fn copy_used(array: &[u8], sector: usize, used: &mut [u8; USED])
     common::runs::copy_run(used, 0, USED, array, sector);
 }
 
-fn mark_scene(scene: u32, used: &mut [u8; USED])
+pub fn mark_scene(scene: u32, used: &mut [u8; USED])
     requires { ⌜ scene < 4096 ⌝ }
     ensures { λ _. ⌜ now (used .exit) ≡ markedScene scene (now (used .entry)) ⌝ }
 {

@@ -10,3 +10,4 @@ pub mod Bits
 pub mod Flags
 pub mod Buffer
 pub mod Turns
+pub mod Parts

@@ -66,6 +66,18 @@ cutShort = 14
 abbrev pub wrongBook : ℕ
 wrongBook = 15
 
+-- of flags by name (02, A7): "18, a bad name, over 4,096 names, a read scene past them;
+abbrev pub wrongNames : ℕ
+wrongNames = 18
+
+-- 19, a name twice in the list;
+abbrev pub nameTwice : ℕ
+nameTwice = 19
+
+-- 20, records don't fit in 4,096 bytes"
+abbrev pub recordsTooLong : ℕ
+recordsTooLong = 20
+
 -- ---- what a call makes of them
 
 -- a call's refusals, each number with its condition, in the order checked: the number of the first that holds, 0 where none does

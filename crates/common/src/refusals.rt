@@ -1,4 +1,4 @@
-// The refusal numbers: 1 to 11 in the order of 01's table, then what can be wrong with a record (02, A1) and with a book (02, A2).
+// The refusal numbers: 1 to 11 in the order of 01's table, then what can be wrong with a record (02, A1) with a book (02, A2) and with names (02, A7).
 
 // the state is not sound, or the chip number unknown
 pub const STATE_NOT_SOUND: u32 = 1;
@@ -44,3 +44,12 @@ pub const CUT_SHORT: u32 = 14;
 
 // a scene or a sector that no flag book has
 pub const WRONG_BOOK: u32 = 15;
+
+// a bad name, too many names, or a read scene that none is for
+pub const WRONG_NAMES: u32 = 18;
+
+// a name stands twice in the list
+pub const NAME_TWICE: u32 = 19;
+
+// the records don't fit in a sector
+pub const RECORDS_TOO_LONG: u32 = 20;

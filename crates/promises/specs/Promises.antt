@@ -21,8 +21,8 @@ use Rattle.state.specs.Soundness.{isSound}
 
 -- a chip, its state with its array
 pub use Rattle.frame.specs.Device.{Device}
--- every byte of the region is as wanted; a 1 is wanted where the array has 0
-pub use Rattle.region.specs.Region.{NothingChanges, WantedRises}
+-- every byte of the region is as wanted; a 1 is wanted where the array has 0, as a type and as a test
+pub use Rattle.region.specs.Region.{NothingChanges, WantedRises, wantsRise}
 -- the call: its answer, and the buffer before and after; the number of its first refusal that holds; of their conditions, that the chip is busy, in AAI or
 -- in power-down, and that its status register has to be written and can't be; and the bytes of its script
 pub use Rattle.plan.specs.Update.{Plans}
@@ -57,6 +57,15 @@ pub record RiseRefused (s : State) (array : List ℕ) (start : ℕ) (wanted : Li
   pub at-rest : isActive s ≡ false
   pub rises : WantedRises array start wanted
 
+-- 7, 8, 9 and 10: what is left where the region fits
+abbrev pub fittingRefusals : State → Bool → List ℕ → ℕ → List ℕ → ℕ → List (ℕ × Bool)
+fittingRefusals s wp array start wanted room =
+    (notAtRest, isActive s)
+    ∷ (wantedRises, wantsRise array start wanted)
+    ∷ (statusLocked, isLocked s wp array start wanted)
+    ∷ (bufferTooShort, ltb room (bytesNeeded s array start wanted))
+    ∷ []
+
 -- 7, 9 and 10: all that is left where the region fits and no bit is to rise
 abbrev pub laterRefusals : State → Bool → List ℕ → ℕ → List ℕ → ℕ → List (ℕ × Bool)
 laterRefusals s wp array start wanted room =
@@ -70,7 +79,9 @@ pub record PlanAnswered (s : State) (wp : Bool) (array : List ℕ) (start : ℕ)
   pub number-is : r .number ≡ planRefusal s wp array start wanted (length buffer)
   pub accepted-exactly : Bytes wanted → Exactly (r .number ≡ 0) (PlanAccepted s wp array start wanted (length buffer))
   pub eight-exactly : Bytes wanted → Exactly (r .number ≡ wantedRises) (RiseRefused s array start wanted)
-  -- where 1, 2, 6 and 8 are ruled out, three are left
+  -- where 1, 2 and 6 are ruled out, four are left,
+  pub fitted : Fitting s array start wanted → r .number ≡ firstOf (fittingRefusals s wp array start wanted (length buffer))
+  -- and where 8 is too, three
   pub later : Bytes wanted → Fitting s array start wanted → (WantedRises array start wanted → ⊥)
       → r .number ≡ firstOf (laterRefusals s wp array start wanted (length buffer))
   -- 9 comes with BPL 1 and WP low, and never else
@@ -84,6 +95,11 @@ pub record PlanAnswered (s : State) (wp : Bool) (array : List ℕ) (start : ℕ)
   pub nothing-to-do : r .number ≡ 0 → NothingChanges array start wanted → (r ≡ emptyPlan s) × (after ≡ buffer)
   -- 10 never comes with so much room
   pub room-enough : roomEnough s ≤ length buffer → r .number ≡ bufferTooShort → ⊥
+
+-- a call that stands above the planner: its own refusal, 0 where there is none, or what the planner answers
+pub record PlansUnless (own : ℕ) (s : State) (wp : Bool) (array : List ℕ) (start : ℕ) (wanted buffer after : List ℕ) (r : Planned) : Type 0 where
+  pub refused : (number : ℕ) → 0 < number → own ≡ number → (r ≡ refusedPlan number s) × (after ≡ buffer)
+  pub planned : own ≡ 0 → Plans s wp array start wanted buffer after r
 
 -- ---- the chip behind it
 

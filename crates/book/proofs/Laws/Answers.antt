@@ -1,11 +1,9 @@
 -- What the book's calls answer: as a refusal and where there is none, and that two answers to one call are equal.
 -- Assumes nothing.
-use mathlib.Core.Path.{_≡_, refl, sym, ap, _∙_}
+use mathlib.Core.Path.{_≡_, refl, sym, _∙_}
 use mathlib.Core.Bool.{Bool}
 use mathlib.Core.List.{List, [], _∷_}
 use Prim.Native.Nat.{ℕ, _<_}
-use native.Mathlib.Omega.{arith}
-use native.Mathlib.Decide.{ℕ-discrete}
 use Rattle.common.specs.Bits.{bit}
 use Rattle.state.specs.declared.State.{State}
 use Rattle.state.specs.declared.Told.{Told}
@@ -13,7 +11,7 @@ use Rattle.state.specs.declared.Planned.{Planned}
 use Rattle.state.specs.Answer.{refusedPlan}
 use Rattle.state.proofs.Laws.Told.{told-value, told-refused}
 use Rattle.promises.specs.Promises.{Plans}
-use Rattle.promises.proofs.Laws.Answered.{plans-determined, plan-answered}
+use Rattle.promises.proofs.Laws.Unless.{unless-refused, unless-planned, unless-state, unless-untouched, unless-determined}
 use Rattle.book.specs.Book.{isRead, countRead, wantedPart}
 use Rattle.book.specs.Refusals.{bookRefusal}
 use Rattle.book.specs.Answers.{isReadTold, countTold, Marks}
@@ -61,42 +59,23 @@ module _ (s : State) (wp : Bool) (array : List ℕ) (sector : ℕ) (scenes buffe
   abbrev number : ℕ
   number = bookRefusal s array sector scenes
 
-  pub marks-refused : (n : ℕ) → 0 < n → number ≡ n → Marks s wp array sector scenes buffer buffer (refusedPlan n s)
-  marks-refused n h e = record {
-    refused = λ m g q. (ap (λ (k : ℕ). refusedPlan k s) (sym e ∙ q), refl);
-    planned = λ q. absurd (omega (arith, e, q));
-  }
+  abbrev want : List ℕ
+  want = wantedPart array sector scenes
 
-  pub marks-planned : (after : List ℕ) (r : Planned) → number ≡ 0 → Plans s wp array sector (wantedPart array sector scenes) buffer after r
+  pub marks-refused : (n : ℕ) → 0 < n → number ≡ n → Marks s wp array sector scenes buffer buffer (refusedPlan n s)
+  marks-refused = unless-refused number s wp array sector want buffer
+
+  pub marks-planned : (after : List ℕ) (r : Planned) → number ≡ 0 → Plans s wp array sector want buffer after r
       → Marks s wp array sector scenes buffer after r
-  marks-planned after r e p = record { refused = λ n g q. absurd (omega (arith, e, q)); planned = λ _. p }
+  marks-planned = unless-planned number s wp array sector want buffer
 
   pub marks-state : (after : List ℕ) (r : Planned) → Marks s wp array sector scenes buffer after r → r .state ≡ s
-  marks-state after r m =
-      elim (ℕ-discrete number 0) [
-        | yes e ↦ plan-answered s wp array sector (wantedPart array sector scenes) buffer after r (m .planned e) .state-given
-        | no n ↦ ap (λ (p : Planned). p .state) (m .refused number (omega arith) refl .0)
-      ]
+  marks-state = unless-state number s wp array sector want buffer
 
-  -- a refusal says nothing but its number, and leaves every byte of the buffer
   pub marks-untouched : (after : List ℕ) (r : Planned) → Marks s wp array sector scenes buffer after r → 0 < r .number
       → (r ≡ refusedPlan (r .number) s) × (after ≡ buffer)
-  marks-untouched after r m h =
-      elim (ℕ-discrete number 0) [
-        | yes e ↦ plan-answered s wp array sector (wantedPart array sector scenes) buffer after r (m .planned e) .refused-untouched h
-        | no n ↦
-            let x = m .refused number (omega arith) refl in
-            (x .0 ∙ ap (λ (k : ℕ). refusedPlan k s) (sym (ap (λ (p : Planned). p .number) (x .0))), x .1)
-      ]
+  marks-untouched = unless-untouched number s wp array sector want buffer
 
-  -- two answers to one call are equal, by the planner's promise alone
   pub marks-determined : (after₁ after₂ : List ℕ) (r₁ r₂ : Planned) → Marks s wp array sector scenes buffer after₁ r₁
       → Marks s wp array sector scenes buffer after₂ r₂ → (r₁ ≡ r₂) × (after₁ ≡ after₂)
-  marks-determined after₁ after₂ r₁ r₂ p q =
-      elim (ℕ-discrete number 0) [
-        | yes e ↦ plans-determined s wp array sector (wantedPart array sector scenes) buffer after₁ after₂ r₁ r₂ (p .planned e) (q .planned e)
-        | no n ↦
-            let x = p .refused number (omega arith) refl in
-            let y = q .refused number (omega arith) refl in
-            (x .0 ∙ sym (y .0), x .1 ∙ sym (y .1))
-      ]
+  marks-determined = unless-determined number s wp array sector want buffer

@@ -3,7 +3,7 @@
 use mathlib.Core.Path.{_≡_, refl, sym, ap, _∙_}
 use mathlib.Core.Bool.{Bool, true, false, cond, _||_}
 use mathlib.Core.List.{List}
-use mathlib.Core.Logic.{inr, ⊎-elim}
+use mathlib.Core.Logic.{inr}
 use Prim.Native.Nat.{ℕ, _+_, _-_, _*_, _/_, _%_, _≤_, _<_}
 use native.Mathlib.Omega.{arith}
 use lib.Dec.{eqb}
@@ -15,13 +15,13 @@ use Rattle.common.specs.Lists.{within}
 use Rattle.common.proofs.Laws.Bits.{bits-ext}
 use Rattle.common.proofs.Laws.Booleans.{or-true, or-false}
 use Rattle.common.proofs.Laws.Choice.{cond-same, cases}
-use Rattle.common.proofs.Laws.Lists.{split}
 use Rattle.common.proofs.Laws.Places.{within-yes}
 use Rattle.state.specs.declared.Planned.{Planned}
 use Rattle.promises.specs.Promises.{Device, Plans, planRefusal, updated, Partway, ReadyToPlan, PlanAnswered, Promises}
 use Rattle.promises.proofs.Laws.Answered.{plan-answered}
-use Rattle.promises.proofs.Laws.Promises.{promises-kept, unwanted-bit-stays, updated-at, updated-partway}
-use Rattle.book.specs.Book.{isRead, usedPart, wantedPart, isListed}
+use Rattle.promises.proofs.Laws.Promises.{unwanted-bit-stays, updated-at, updated-partway}
+use Rattle.promises.proofs.Laws.Unless.{unless-none, unless-kept}
+use Rattle.book.specs.Book.{usedPart, wantedPart, isListed}
 use Rattle.book.specs.Refusals.{bookRefusal, Opened}
 use Rattle.book.specs.Answers.{Marks}
 use Rattle.book.specs.Marking.{MarkFinished, MarkLost, BehindMark, BesideKept, AllMarked, OnlyListed, MarkedAgain}
@@ -73,10 +73,7 @@ module _ (wp : Bool) (chip : Device) (sector : ℕ) (scenes buffer after : List 
   want = wantedPart before sector scenes
 
   no-refusal : bookRefusal (chip .state) before sector scenes ≡ 0
-  no-refusal =
-      ⊎-elim (λ h. let refused = marks .refused (bookRefusal (chip .state) before sector scenes) h refl .0 in
-      absurd (omega (arith, good, ap (λ (p : Planned). p .number) refused)))
-      (λ h. omega arith) (split 0 (bookRefusal (chip .state) before sector scenes))
+  no-refusal = unless-none (bookRefusal (chip .state) before sector scenes) (chip .state) wp before sector want buffer after r marks good
 
   pub opened : Opened (chip .state) before sector scenes
   opened = opened-exactly (chip .state) before sector scenes .when no-refusal
@@ -91,7 +88,7 @@ module _ (wp : Bool) (chip : Device) (sector : ℕ) (scenes buffer after : List 
   answered = plan-answered (chip .state) wp before sector want buffer after r plan-of
 
   pub kept : Promises wp chip sector want (length buffer)
-  kept = promises-kept wp chip sector want (length buffer) bytes (sym (answered .number-is) ∙ good)
+  kept = unless-kept (bookRefusal (chip .state) before sector scenes) wp chip sector want buffer after r bytes marks good
 
   -- ---- behind its script
 

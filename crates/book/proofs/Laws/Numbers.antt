@@ -1,12 +1,11 @@
 -- The number that a marking answers: the first of the book's own refusals and the planner's 7, 9 and 10 that holds. 6 and 8 never come.
 -- Assumes nothing.
 use mathlib.Core.Path.{_≡_, refl, sym, ap, _∙_}
-use mathlib.Core.Bool.{Bool, true, false, true≢false}
+use mathlib.Core.Bool.{Bool, true, false}
 use mathlib.Core.List.{List}
 use mathlib.Core.Logic.{_⊎_, ⊎-elim}
 use Prim.Native.Nat.{ℕ, _+_, _*_, _≤_, _<_}
 use native.Mathlib.Omega.{arith}
-use lib.Dec.{ltb}
 use lib.ListN.{length, getD}
 use Rattle.common.specs.Bits.{Bytes, bitAt}
 use Rattle.common.specs.Refusals.{wrongRegion, wantedRises, firstOf, Exactly}
@@ -16,8 +15,9 @@ use Rattle.common.proofs.Laws.Lists.{split}
 use Rattle.common.proofs.Laws.Refusals.{Given, given-exactly, clear, first-before, first-behind}
 use Rattle.state.specs.declared.State.{State}
 use Rattle.state.specs.declared.Planned.{Planned}
-use Rattle.promises.specs.Promises.{isActive, isLocked, bytesNeeded, roomEnough, WantedRises, Fitting, laterRefusals}
+use Rattle.promises.specs.Promises.{isActive, roomEnough, WantedRises, Fitting, laterRefusals}
 use Rattle.promises.proofs.Laws.Answered.{plan-answered}
+use Rattle.promises.proofs.Laws.Unless.{unless-accepted}
 use Rattle.book.specs.Book.{wantedPart, isListed}
 use Rattle.book.specs.Refusals.{hasOver, bookRefusals, bookRefusal, markRefusals, Opened}
 use Rattle.book.specs.Answers.{Marks}
@@ -79,16 +79,9 @@ module _ (s : State) (wp : Bool) (array : List ℕ) (sector : ℕ) (scenes buffe
   -- on a chip at rest, whose BPL is 0 or whose WP is high, in the room of its worst case: accepted
   pub mark-accepted : Opened s array sector scenes → isActive s ≡ false → (s .bpl ≡ false) ⊎ (wp ≡ true) → roomEnough s ≤ length buffer → r .number ≡ 0
   mark-accepted o calm unlocked enough =
-      let e = opened-exactly s array sector scenes .only-when o in
-      let want : List ℕ = wantedPart array sector scenes in
-      let answered = plan-answered s wp array sector want buffer after r (marks .planned e) in
-      let left : r .number ≡ firstOf later = mark-number ∙ first-behind own later (clear own refl (sym (refusal-of s array sector scenes) ∙ e)) in
-      cases (isLocked s wp array sector want)
-      (λ t. let locked = answered .nine-locked (left ∙ rw (calm, t) refl) in
-      absurd (⊎-elim (λ b. true≢false (sym (locked .0) ∙ b)) (λ h. true≢false (sym h ∙ locked .1)) unlocked))
-      (λ f. cases (ltb (length buffer) (bytesNeeded s array sector want))
-      (λ t. absurd (answered .room-enough enough (left ∙ rw (calm, f, t) refl)))
-      (λ g. left ∙ rw (calm, f, g) refl))
+      unless-accepted (bookRefusal s array sector scenes) s wp array sector (wantedPart array sector scenes) buffer after r marks
+      (opened-exactly s array sector scenes .only-when o) (wanted-bytes array sector scenes (book-inside s array sector scenes o) bytes)
+      (book-fitting s array sector scenes o) (nothing-rises s array sector scenes o bytes) calm unlocked enough
 
   -- each number exactly when its own condition holds and no earlier one does
   pub mark-refused-exactly : (number : ℕ) → 0 < number → Exactly (r .number ≡ number) (Given number rows)

@@ -6,12 +6,13 @@ use Prim.Native.Nat.{ℕ, _+_, _-_, _*_, _/_, _%_, _^_, _≤_, _<_}
 use native.Mathlib.Omega.{arith}
 use lib.Count.{ones}
 use lib.Dec.{eqb}
-use lib.ListN.{length, getD, drop, length-drop}
-use lib.Seq.{length-take-le, getD-take, getD-drop, ext-getD}
+use lib.ListN.{length, getD}
+use lib.Seq.{ext-getD}
 use Rattle.common.specs.Bits.{Bytes, bitAt}
 use Rattle.common.specs.Lists.{mapi, onRun, countBelow}
-use Rattle.common.proofs.Laws.Bits.{bit-is, bytes-within, count-zeros}
+use Rattle.common.proofs.Laws.Bits.{bit-is, count-zeros}
 use Rattle.common.proofs.Laws.Lists.{length-mapi, getD-mapi}
+use Rattle.common.proofs.Laws.Parts.{part-length, part-at, part-bytes}
 use Rattle.common.proofs.Laws.Places.{count-none, count-cong, count-add}
 use borrow.Author.Tests.{le-leb, lt-ltb}
 use Rattle.book.specs.Book.{isRead, countRead, usedPart}
@@ -45,14 +46,15 @@ read-shifted array sector scene = rw (read-is array sector scene, bit-is (getD a
 module _ (array : List ℕ) (sector : ℕ) (fits : sector + 512 ≤ length array) where
   pub used-length : length (usedPart array sector) ≡ 512
   unfolding usedPart
-  used-length = length-take-le 512 (drop sector array) (omega (arith, length-drop sector array))
+  used-length = part-length array sector 512 fits
 
   pub used-at : (k : ℕ) → k < 512 → getD (usedPart array sector) k 0 ≡ getD array (sector + k) 0
   unfolding usedPart
-  used-at k h = getD-take 512 (drop sector array) k 0 h ∙ getD-drop sector array k 0
+  used-at = part-at array sector 512 fits
 
   pub used-bytes : Bytes array → Bytes (usedPart array sector)
-  used-bytes bytes = bytes-within (usedPart array sector) (λ k h. rw (used-at k (omega (arith, used-length))) (bytes (sector + k)))
+  unfolding usedPart
+  used-bytes = part-bytes array sector 512 fits
 
   -- a copy of them over any 512 bytes
   pub used-copied : (old : List ℕ) → length old ≡ 512 → mapi (onRun 0 512 (λ k x. getD array (sector + (k - 0)) 0)) old ≡ usedPart array sector

@@ -7,7 +7,7 @@ use native.Mathlib.Nat.{add-zero, zero-add}
 use native.Mathlib.Numerals.{add-one}
 use native.Mathlib.Omega.{arith}
 use lib.ListN.{length, take, drop, set, length-append, length-take, length-drop, take-append-drop, drop-of-length-le, getD}
-use lib.Seq.{set-split, take-at, length-take-le, drop-append-add, drop-drop, drop-cons}
+use lib.Seq.{set-split, take-append-seam, take-at, length-take-le, drop-append-add, drop-drop, drop-cons}
 use Rattle.common.specs.Buffer.{written, Put}
 
 written-nil : (at : ℕ) (buffer : List ℕ) → written at [] buffer ≡ buffer
@@ -21,6 +21,11 @@ written-one at x buffer h = ap (λ (k : ℕ). take at buffer ++ (x ∷ drop k bu
 pub written-front : (bytes buffer : List ℕ) → written 0 bytes buffer ≡ bytes ++ drop (length bytes) buffer
 unfolding written
 written-front bytes buffer = ap (λ (k : ℕ). bytes ++ drop k buffer) (zero-add (length bytes))
+
+-- behind a front that stays
+pub written-behind : (front bytes rest : List ℕ) → written (length front) bytes (front ++ rest) ≡ front ++ (bytes ++ drop (length bytes) rest)
+unfolding written
+written-behind front bytes rest = rw (take-append-seam front rest, drop-append-add front rest (length bytes)) refl
 
 length-written : (at : ℕ) (bytes buffer : List ℕ) → at + length bytes ≤ length buffer → length (written at bytes buffer) ≡ length buffer
 unfolding written

@@ -7,7 +7,7 @@ use Prim.Native.Nat.{ℕ, zero, suc, _+_, _-_, _≤_, _<_}
 use native.Mathlib.Nat.{le-of-suc-le-suc, not-suc-le-zero}
 use native.Mathlib.Omega.{arith}
 use native.Mathlib.Decide.{ℕ-discrete, decLt}
-use lib.ListN.{length, getD, set, length-set}
+use lib.ListN.{length, getD, set, drop, replicate, length-set}
 use lib.Seq.{getD-append-add, ext-getD, getD-set-same, getD-set-other}
 use borrow.Author.Tests.{lt-ltb, le-ltb}
 use Rattle.common.specs.Lists.{mapi, tab, upTo}
@@ -23,6 +23,12 @@ getD-front (x ∷ xs) ys (suc i) h = getD-front xs ys i (le-of-suc-le-suc h)
 
 pub getD-behind : (xs ys : List ℕ) (i : ℕ) → length xs ≤ i → getD (xs ++ ys) i 0 ≡ getD ys (i - length xs) 0
 getD-behind xs ys i h = let there : length xs + (i - length xs) ≡ i = omega arith in rw there at (getD-append-add xs ys (i - length xs) 0)
+
+-- what is left of equal elements
+pub drop-replicate : (m n x : ℕ) → drop m (replicate n x) ≡ replicate (n - m) x
+drop-replicate zero n x = let all : n ≡ n - 0 = omega arith in ap (λ (k : ℕ). replicate k x) all
+drop-replicate (suc m) zero x = let none : 0 ≡ 0 - suc m = omega arith in ap (λ (k : ℕ). replicate k x) none
+drop-replicate (suc m) (suc n) x = let both : n - m ≡ suc n - suc m = omega arith in drop-replicate m n x ∙ ap (λ (k : ℕ). replicate k x) both
 
 pub length-mapi : (f : ℕ → ℕ → ℕ) (l : List ℕ) → length (mapi f l) ≡ length l
 length-mapi f [] = refl

@@ -22,7 +22,7 @@ use Rattle.state.specs.Soundness.{isSound}
 use Rattle.script.proofs.Laws.Records.{encode-none, encode-empty}
 use Rattle.script.proofs.Laws.Measure.{counts-none}
 use Rattle.region.specs.Region.{wantsRise, NothingChanges, WantedRises}
-use Rattle.region.proofs.Laws.Words.{rises-exactly}
+pub use Rattle.region.proofs.Laws.Words.{rises-exactly}
 use Rattle.plan.specs.Plan.{stepOneNeeded, planRecords}
 use Rattle.plan.specs.Refusals.{isLocked, bytesNeeded, planRefusals, planRefusal}
 use Rattle.plan.specs.Update.{givenRecords, PlanUpdated, Plans}
@@ -30,7 +30,7 @@ use Rattle.plan.proofs.Laws.Plan.{plan-empty-exactly}
 use Rattle.plan.proofs.Laws.Update.{plan-given, plan-update-determined, refused-untouched}
 use Rattle.worst.specs.Worst.{roomEnough}
 use Rattle.worst.proofs.Laws.Worst.{worst-room}
-use Rattle.promises.specs.Promises.{Fitting, PlanAccepted, RiseRefused, laterRefusals, PlanAnswered}
+use Rattle.promises.specs.Promises.{Fitting, PlanAccepted, RiseRefused, fittingRefusals, laterRefusals, PlanAnswered}
 
 module _ (s : State) (wp : Bool) (array : List ℕ) (start : ℕ) (wanted : List ℕ) where
   module _ (room : ℕ) where
@@ -59,6 +59,9 @@ module _ (s : State) (wp : Bool) (array : List ℕ) (start : ℕ) (wanted : List
 
       not-6 : (ltb longestWanted (length wanted) || ltb (dataOf s .size) (start + length wanted)) ≡ false
       not-6 = or-none-i (le-ltb longestWanted (length wanted) (o .short)) (le-ltb (dataOf s .size) (start + length wanted) (o .fits))
+
+    refusal-fitted : Fitting s array start wanted → number ≡ firstOf (fittingRefusals s wp array start wanted room)
+    refusal-fitted o = refusal-in-order ∙ rw (not-1 o, not-2 o, not-6 o) refl
 
     module _ (bytes : Bytes wanted) where
       falling : wantsRise array start wanted ≡ false → WantedRises array start wanted → ⊥
@@ -99,7 +102,7 @@ module _ (s : State) (wp : Bool) (array : List ℕ) (start : ℕ) (wanted : List
           }
 
       refusal-later : Fitting s array start wanted → (WantedRises array start wanted → ⊥) → number ≡ firstOf (laterRefusals s wp array start wanted room)
-      refusal-later o none = refusal-in-order ∙ rw (not-1 o, not-2 o, not-6 o, not-8 none) refl
+      refusal-later o none = refusal-fitted o ∙ rw (not-8 none) refl
 
     refusal-9-locked : number ≡ statusLocked → (s .bpl ≡ true) × (wp ≡ false)
     unfolding isLocked
@@ -151,6 +154,7 @@ module _ (s : State) (wp : Bool) (array : List ℕ) (start : ℕ) (wanted : List
         record { when = λ z. e .when (sym (plans .number) ∙ z); only-when = λ a. plans .number ∙ e .only-when a };
     eight-exactly = λ bytes. let e = refusal-8-exactly (length buffer) bytes in
         record { when = λ z. e .when (sym (plans .number) ∙ z); only-when = λ a. plans .number ∙ e .only-when a };
+    fitted = λ fitting. plans .number ∙ refusal-fitted (length buffer) fitting;
     later = λ bytes fitting none. plans .number ∙ refusal-later (length buffer) bytes fitting none;
     nine-locked = λ z. refusal-9-locked (length buffer) (sym (plans .number) ∙ z);
     refused-untouched = refused-untouched s wp array start wanted buffer after r plans;
