@@ -1,6 +1,7 @@
 // What bytes are a name.
 ghost use mathlib.Core.Path.{_≡_};
 ghost use Rattle.names.specs.Records.{isNameByte, allName, isName};
+ghost use Rattle.names.specs.Search.{sameBytes};
 
 const LONGEST_NAME: usize = 32;
 
@@ -39,4 +40,21 @@ pub fn is_name(bytes: &[u8]) -> bool
         return false;
     }
     all_name(bytes)
+}
+
+// Whether two names are the same, byte for byte.
+pub fn same(bytes: &[u8], others: &[u8]) -> bool
+    ensures { λ r. ⌜ r ≡ sameBytes (now (bytes .entry)) (now (others .entry)) ⌝ }
+{
+    if bytes.len() != others.len() {
+        return false;
+    }
+    let mut i: usize = 0;
+    while i < bytes.len() {
+        if bytes[i] != others[i] {
+            return false;
+        }
+        i += 1;
+    }
+    true
 }

@@ -1,14 +1,14 @@
 -- The laws of `front`: a whole good record is read whatever is behind it, and nothing else is.
 -- Assumes nothing.
 use mathlib.Core.Path.{_≡_, refl, sym, ap, _∙_}
-use mathlib.Core.Bool.{true, _&&_}
+use mathlib.Core.Bool.{true, false, cond, _&&_}
 use mathlib.Core.List.{List, [], _∷_, _++_}
 use Prim.Native.Nat.{ℕ, zero, suc, _+_, _≤_, _<_}
 use native.Mathlib.Omega.{arith}
 use lib.Dec.{eqb, leb}
 use lib.ListN.{length, getD, take, drop, length-append, take-append-drop}
 use lib.Seq.{take-append-seam, drop-append-seam, length-take-le, drop-at}
-use borrow.Author.Tests.{eqb-true, leb-true, le-leb}
+use borrow.Author.Tests.{eqb-true, leb-true, le-leb, lt-leb}
 use Rattle.common.specs.Refusals.{Exactly}
 use Rattle.common.proofs.Laws.Booleans.{and-l, and-r, and-i}
 use Rattle.common.proofs.Laws.Choice.{cond-elim}
@@ -55,6 +55,13 @@ all-exactly (x ∷ xs) =
 pub front-record : (name rest : List ℕ) → isName name ≡ true → front (recordBytes true name ++ rest) ≡ item name rest
 unfolding front frontBody
 front-record name rest good =
+    rw (take-append-seam name rest, drop-append-seam name rest, good, le-leb (length name) (length (name ++ rest)) (omega (arith, length-append name rest))) refl
+
+-- a record whose length and name stand is read if its mark is whole, and else there is none
+pub front-torn : (a b : ℕ) (name rest : List ℕ) → isName name ≡ true
+    → front (a ∷ b ∷ length name ∷ (name ++ rest)) ≡ cond (eqb a 0x4e && eqb b 0x52) (item name rest) none
+unfolding front frontBody
+front-torn a b name rest good =
     rw (take-append-seam name rest, drop-append-seam name rest, good, le-leb (length name) (length (name ++ rest)) (omega (arith, length-append name rest))) refl
 
 -- no bytes are none
@@ -112,6 +119,36 @@ front-exactly bytes name rest = record {
   when = front-item bytes;
   only-when = λ i. ap front (i .is) ∙ front-record name rest (i .good);
 }
+
+-- ---- behind a length
+
+pub record Body (n : ℕ) (bytes name rest : List ℕ) : Type 0 where
+  pub good : isName name ≡ true
+  pub long : n ≡ length name
+  pub is : bytes ≡ name ++ rest
+
+-- it is what stands behind a record's mark and length
+pub body-exactly : (n : ℕ) (bytes name rest : List ℕ) → Exactly (frontBody n bytes ≡ item name rest) (Body n bytes name rest)
+unfolding front
+body-exactly n bytes name rest =
+    let marked = front-exactly (0x4e ∷ 0x52 ∷ n ∷ bytes) name rest in
+    record {
+      when = λ e. let i = marked .when e in record { good = i .good; long = cc (i .is); is = cc (i .is) };
+      only-when = λ b. marked .only-when record { good = b .good; is = rw (b .long, b .is) refl };
+    }
+
+module _ (n : ℕ) (bytes : List ℕ) where
+  pub body-name : n ≤ length bytes → isName (take n bytes) ≡ true → frontBody n bytes ≡ item (take n bytes) (drop n bytes)
+  unfolding frontBody
+  body-name h good = rw (le-leb n (length bytes) h, good) refl
+
+  pub body-short : length bytes < n → frontBody n bytes ≡ none
+  unfolding frontBody
+  body-short h = rw (lt-leb n (length bytes) h) refl
+
+  pub body-bad : n ≤ length bytes → isName (take n bytes) ≡ false → frontBody n bytes ≡ none
+  unfolding frontBody
+  body-bad h bad = rw (le-leb n (length bytes) h, bad) refl
 
 -- ---- lengths
 

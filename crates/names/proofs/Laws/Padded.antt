@@ -9,13 +9,13 @@ use native.Mathlib.Nat.{add-zero}
 use native.Mathlib.Omega.{arith}
 use lib.Dec.{leb}
 use lib.ListN.{length, getD, take, drop, replicate, length-append, length-drop, length-replicate, getD-replicate, take-append-drop}
-use lib.Seq.{take-append-le, take-at, getD-append-add, ext-getD}
+use lib.Seq.{take-append-le, drop-append-add, take-at, getD-append-add, ext-getD}
 use borrow.Author.Tests.{leb-true, le-leb, lt-leb, lt-ltb}
 use Rattle.common.specs.Buffer.{written}
 use Rattle.common.specs.Lists.{mapi, onRun}
 use Rattle.common.proofs.Laws.Booleans.{and-r}
-use Rattle.common.proofs.Laws.Buffer.{written-front}
-use Rattle.common.proofs.Laws.Lists.{split, getD-front, getD-behind, length-mapi, getD-mapi}
+use Rattle.common.proofs.Laws.Buffer.{written-front, written-behind}
+use Rattle.common.proofs.Laws.Lists.{split, getD-front, getD-behind, drop-replicate, length-mapi, getD-mapi}
 use Rattle.names.specs.Records.{allName, isName, Front, none, item, front, namesOf, recordBytes, recordsBytes, AllNames, padded}
 use Rattle.names.proofs.Laws.Front.{name-most, name-all, all-exactly, front-nil, front-record, front-item}
 use Rattle.names.proofs.Laws.Names.{names-none, names-append, names-split, names-determined}
@@ -27,11 +27,14 @@ all-below name i good h =
     let byte : ℕ = getD name i 0 in
     omega (arith, leb-true byte 0x7e (and-r (leb 0x20 byte) (leb byte 0x7e) (all-exactly name .when good i h)))
 
+pub name-below : (name : List ℕ) → isName name ≡ true → (i : ℕ) → i < length name → getD name i 0 < 0xff
+name-below name good i h = all-below name i (name-all name good) h
+
 record-below : (name : List ℕ) (i : ℕ) → isName name ≡ true → i < 3 + length name → getD (recordBytes true name) i 0 < 0xff
 record-below name zero good h = omega arith
 record-below name (suc zero) good h = omega arith
 record-below name (suc (suc zero)) good h = omega (arith, name-most name good)
-record-below name (suc (suc (suc i))) good h = all-below name i (name-all name good) (omega arith)
+record-below name (suc (suc (suc i))) good h = name-below name good i (omega arith)
 
 pub records-below : (names : List (List ℕ)) (i : ℕ) → AllNames names → i < length (recordsBytes true names) → getD (recordsBytes true names) i 0 < 0xff
 unfolding recordsBytes
@@ -108,6 +111,10 @@ names-erased-behind bytes m =
       ends = front-erased-behind (s .rest) m (s .ends);
     })
 
+pub padded-names : (bytes : List ℕ) → namesOf (padded bytes) ≡ namesOf bytes
+unfolding padded
+padded-names bytes = names-erased-behind bytes (4096 - length bytes)
+
 -- good records are read back from a sector that holds nothing else
 pub padded-reads-back : (names : List (List ℕ)) → AllNames names → namesOf (padded (recordsBytes true names)) ≡ names
 unfolding padded
@@ -116,7 +123,44 @@ padded-reads-back names good =
     ∙ ap (λ (l : List (List ℕ)). names ++ l) (names-none _ (front-erased-behind [] (4096 - length (recordsBytes true names)) front-nil))
     ∙ append-nil names
 
+-- ---- a sector's bytes
+
+-- an erased one
+pub padded-none : padded [] ≡ replicate 4096 0xff
+unfolding padded
+padded-none = refl
+
+pub padded-long : (bytes : List ℕ) → length bytes ≤ 4096 → length (padded bytes) ≡ 4096
+unfolding padded
+padded-long bytes h = omega (arith, length-append bytes (replicate (4096 - length bytes) 0xff), length-replicate {A = ℕ} (4096 - length bytes) 0xff)
+
+pub padded-front : (bytes : List ℕ) (k : ℕ) → k < length bytes → getD (padded bytes) k 0 ≡ getD bytes k 0
+unfolding padded
+padded-front bytes k h = getD-front bytes (replicate (4096 - length bytes) 0xff) k h
+
+pub padded-behind : (bytes : List ℕ) (k : ℕ) → length bytes ≤ k → k < 4096 → getD (padded bytes) k 0 ≡ 0xff
+unfolding padded
+padded-behind bytes k h l =
+    getD-behind bytes (replicate (4096 - length bytes) 0xff) k h ∙ getD-replicate (4096 - length bytes) (k - length bytes) 0xff 0 (omega arith)
+
 -- ---- laid into a sector's buffer
+
+-- behind a front, over what stood there
+pub padded-laid : (front old new : List ℕ) → length old ≤ length new → length front + length new ≤ 4096
+    → written (length front) new (padded (front ++ old)) ≡ padded (front ++ new)
+unfolding padded
+padded-laid front old new shorter fits =
+    let erased : List ℕ = replicate (4096 - length (front ++ old)) 0xff in
+    let longer : length old + (length new - length old) ≡ length new = omega arith in
+    let left : 4096 - length (front ++ old) - (length new - length old) ≡ 4096 - length (front ++ new) =
+    omega (arith, length-append front old, length-append front new) in
+    let rest : drop (length new) (old ++ erased) ≡ replicate (4096 - length (front ++ new)) 0xff =
+    ap (λ (k : ℕ). drop k (old ++ erased)) (sym longer) ∙ drop-append-add old erased (length new - length old)
+    ∙ drop-replicate (length new - length old) (4096 - length (front ++ old)) 0xff ∙ ap (λ (k : ℕ). replicate k 0xff) left in
+    ap (written (length front) new) (append-assoc front old erased)
+    ∙ written-behind front new (old ++ erased)
+    ∙ ap (λ (l : List ℕ). front ++ (new ++ l)) rest
+    ∙ sym (append-assoc front new (replicate (4096 - length (front ++ new)) 0xff))
 
 -- bytes laid at the front, and the rest filled with FF
 pub padded-filled : (bytes buffer : List ℕ) (n : ℕ) → n ≡ length bytes → n ≤ 4096 → length buffer ≡ 4096

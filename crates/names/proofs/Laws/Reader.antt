@@ -14,7 +14,7 @@ use borrow.Author.Tests.{ltb-true, ltb-false, le-leb, lt-leb, eq-eqb, ne-eqb}
 use Rattle.common.proofs.Laws.Booleans.{or-none-l, or-none-r, or-imp}
 use Rattle.common.proofs.Laws.Choice.{cases}
 use Rattle.names.specs.Records.{isNameByte, allName, isName, none, item, frontBody, front, frontLength}
-use Rattle.names.proofs.Laws.Front.{front-nil}
+use Rattle.names.proofs.Laws.Front.{front-nil, body-short}
 
 -- ---- the bytes of a name, from a place on
 
@@ -70,10 +70,6 @@ body-length n rest h = rw (le-leb n (length rest) h) (by (isName (take n rest)))
     by : (t : Bool) → frontLength (cond t (item (take n rest) (drop n rest)) none) ≡ cond t (3 + n) 0
     by true = ap (λ (k : ℕ). 3 + k) (length-take-le n rest h)
     by false = refl
-
-body-short : (n : ℕ) (rest : List ℕ) → length rest < n → frontBody n rest ≡ none
-unfolding frontBody
-body-short n rest h = rw (lt-leb n (length rest) h) refl
 
 front-short : (bytes : List ℕ) → length bytes < 3 → front bytes ≡ none
 unfolding front
