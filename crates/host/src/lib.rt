@@ -1,6 +1,7 @@
 // The library for programs in C, C++ or Rust: include/zeradok.h declares these calls. Each is one call of the model, under a name of its own.
 mod reader;
 
+use flags::Returned;
 use reader::Record;
 use run::Ran;
 use salvage::Salvaged;
@@ -19,6 +20,7 @@ ghost use Rattle.script.specs.Survey.{surveyOf};
 ghost use Rattle.run.specs.Script.{ScriptRun};
 ghost use Rattle.book.specs.Answers.{isReadTold, countTold, Marks};
 ghost use Rattle.salvage.specs.Answers.{Salvages};
+ghost use Rattle.flags.specs.Answers.{nameTold, NameMarks, BookMoves, BookReturns};
 ghost use Rattle.host.specs.Read.{ReadAnswered};
 
 // Make a new chip.
@@ -162,4 +164,64 @@ pub extern "C" fn zeradok_salvage(sector: &[u8], kept: &mut [u8], dropped: &mut 
     ensures { λ r. ⌜ Salvages (now (sector .entry)) (now (kept .entry)) (now (dropped .entry)) (now (kept .exit)) (now (dropped .exit)) r ⌝ }
 {
     salvage::salvage(sector, kept, dropped)
+}
+
+// Whether a record of a sector of names has a name: 1 or 0.
+#[no_mangle]
+pub extern "C" fn zeradok_names_is_read(
+    chip: State,
+    array: &[u8],
+    sector: usize,
+    name: &[u8],
+) -> Told
+    ensures { λ r. ⌜ r ≡ nameTold chip (now (array .entry)) sector (now (name .entry)) ⌝ }
+{
+    flags::is_read(chip, array, sector, name)
+}
+
+// Plan the marking of a name: the script goes to the front of the buffer.
+#[no_mangle]
+pub extern "C" fn zeradok_names_mark(
+    chip: State,
+    wp_high: bool,
+    array: &[u8],
+    sector: usize,
+    name: &[u8],
+    buffer: &mut [u8],
+) -> Planned
+    ensures { λ r. ⌜ NameMarks chip «wp_high» (now (array .entry)) sector (now (name .entry)) (now (buffer .entry)) (now (buffer .exit)) r ⌝ }
+{
+    flags::mark(chip, wp_high, array, sector, name, buffer)
+}
+
+// Plan the move of a flag book into a sector of names.
+#[no_mangle]
+pub extern "C" fn zeradok_names_move(
+    chip: State,
+    wp_high: bool,
+    array: &[u8],
+    book: usize,
+    sector: usize,
+    list: &[u8],
+    buffer: &mut [u8],
+) -> Planned
+    ensures { λ r. ⌜ BookMoves chip «wp_high» (now (array .entry)) book sector (now (list .entry)) (now (buffer .entry)) (now (buffer .exit)) r ⌝ }
+{
+    flags::move_there(chip, wp_high, array, book, sector, list, buffer)
+}
+
+// Plan the way back, from a sector of names into a flag book.
+#[no_mangle]
+pub extern "C" fn zeradok_names_back(
+    chip: State,
+    wp_high: bool,
+    array: &[u8],
+    sector: usize,
+    book: usize,
+    list: &[u8],
+    buffer: &mut [u8],
+) -> Returned
+    ensures { λ r. ⌜ BookReturns chip «wp_high» (now (array .entry)) sector book (now (list .entry)) (now (buffer .entry)) (now (buffer .exit)) r ⌝ }
+{
+    flags::move_back(chip, wp_high, array, sector, book, list, buffer)
 }

@@ -24,6 +24,9 @@ use Rattle.plan.proofs.Laws.Update.{plan-update-determined}
 use Rattle.state.specs.declared.Told.{Told}
 use Rattle.book.specs.Answers.{isReadTold, countTold, Marks}
 use Rattle.book.proofs.Laws.Answers.{is-read-determined, count-determined, marks-determined}
+use Rattle.flags.specs.declared.Returned.{Returned}
+use Rattle.flags.specs.Answers.{nameTold, NameMarks, BookMoves, BookReturns}
+use Rattle.flags.proofs.Laws.Answers.{name-determined, name-marks-determined, moves-determined, returns-determined}
 use Rattle.salvage.specs.declared.Salvaged.{Salvaged}
 use Rattle.salvage.specs.Answers.{Salvages}
 use Rattle.salvage.proofs.Laws.Answers.{salvage-determined}
@@ -75,6 +78,23 @@ pub zeradok-salvage-determined : (sector kept dropped kept₁ kept₂ dropped₁
     → Salvages sector kept dropped kept₁ dropped₁ a → Salvages sector kept dropped kept₂ dropped₂ b
     → (a ≡ b) × ((kept₁ ≡ kept₂) × (dropped₁ ≡ dropped₂))
 zeradok-salvage-determined = salvage-determined
+
+-- flags by name
+pub zeradok-names-is-read-determined : (chip : State) (array : List ℕ) (sector : ℕ) (name : List ℕ) (a b : Told)
+    → a ≡ nameTold chip array sector name → b ≡ nameTold chip array sector name → a ≡ b
+zeradok-names-is-read-determined = name-determined
+
+pub zeradok-names-mark-determined : (chip : State) (wp : Bool) (array : List ℕ) (sector : ℕ) (name buffer after after′ : List ℕ) (a b : Planned)
+    → NameMarks chip wp array sector name buffer after a → NameMarks chip wp array sector name buffer after′ b → (a ≡ b) × (after ≡ after′)
+zeradok-names-mark-determined = name-marks-determined
+
+pub zeradok-names-move-determined : (chip : State) (wp : Bool) (array : List ℕ) (book sector : ℕ) (list buffer after after′ : List ℕ) (a b : Planned)
+    → BookMoves chip wp array book sector list buffer after a → BookMoves chip wp array book sector list buffer after′ b → (a ≡ b) × (after ≡ after′)
+zeradok-names-move-determined = moves-determined
+
+pub zeradok-names-back-determined : (chip : State) (wp : Bool) (array : List ℕ) (sector book : ℕ) (list buffer after after′ : List ℕ) (a b : Returned)
+    → BookReturns chip wp array sector book list buffer after a → BookReturns chip wp array sector book list buffer after′ b → (a ≡ b) × (after ≡ after′)
+zeradok-names-back-determined = returns-determined
 
 -- the two calls on a lent state: the number returned, the chip left and the output
 module _ (wp : Bool) (f : List ℕ) (d : Device) (output : List ℕ) (number number′ : ℕ) (after after′ : Device) (out out′ : List ℕ) where

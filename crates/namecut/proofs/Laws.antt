@@ -1,0 +1,12 @@
+pub mod Between
+pub mod Standing
+pub mod Grown
+pub mod Again
+pub mod Appended
+pub mod Marking
+pub mod Added
+pub mod Moved
+pub mod History
+pub mod Restored
+pub mod Resumed
+pub mod Witness
