@@ -40,4 +40,11 @@ pub mod Worst
 pub mod Book
 pub mod Salvaged
 pub mod Salvage
+pub mod FlagsRead
+pub mod FlagsWanted
+pub mod FlagsPlans
+pub mod FlagsRefused
+pub mod FlagsLeft
+pub mod FlagsMoved
+pub mod Flags
 pub mod Demands

@@ -29,6 +29,8 @@ use Rattle.plan.specs.Update.{PlanUpdated}
 use Rattle.powercut.specs.PowerCut.{updated, Partway}
 use Rattle.samples.specs.Session.{Holds}
 use Rattle.samples.specs.Table.{sessions}
+use Rattle.flags.specs.declared.Returned.{Returned}
+use Rattle.flags.specs.Answers.{nameTold, NameMarks, BookMoves, BookReturns}
 use Rattle.salvage.specs.declared.Salvaged.{Salvaged}
 use Rattle.salvage.specs.Answers.{Salvages}
 use Rattle.host.specs.declared.reader.Record.{Record}
@@ -60,6 +62,7 @@ use Rattle.rules.specs.Unread.{UnreadRules}
 use Rattle.rules.specs.Worst.{WorstRules}
 use Rattle.rules.specs.Book.{BookRules}
 use Rattle.rules.specs.Salvage.{SalvageRules}
+use Rattle.rules.specs.Flags.{FlagsRules}
 
 -- ---- demand 1
 
@@ -93,6 +96,14 @@ pub record EveryCallAnswers : Type 0 where
   pub book-count : (s : State) (array : List ℕ) (sector : ℕ) → One (λ (r : Told). r ≡ countTold s array sector)
   pub book-mark : (s : State) (wp : Bool) (array : List ℕ) (sector : ℕ) (scenes buffer : List ℕ)
       → One (λ (a : Planned × List ℕ). Marks s wp array sector scenes buffer (a .1) (a .0))
+  -- flags by name: a question, a marking, a move and the way back, which also reports how many records are not on the list
+  pub names-is-read : (s : State) (array : List ℕ) (sector : ℕ) (name : List ℕ) → One (λ (r : Told). r ≡ nameTold s array sector name)
+  pub names-mark : (s : State) (wp : Bool) (array : List ℕ) (sector : ℕ) (name buffer : List ℕ)
+      → One (λ (a : Planned × List ℕ). NameMarks s wp array sector name buffer (a .1) (a .0))
+  pub names-move : (s : State) (wp : Bool) (array : List ℕ) (book sector : ℕ) (list buffer : List ℕ)
+      → One (λ (a : Planned × List ℕ). BookMoves s wp array book sector list buffer (a .1) (a .0))
+  pub names-back : (s : State) (wp : Bool) (array : List ℕ) (sector book : ℕ) (list buffer : List ℕ)
+      → One (λ (a : Returned × List ℕ). BookReturns s wp array sector book list buffer (a .1) (a .0))
   -- a salvaged sector: number and lengths; what is kept, and the list
   pub salvage : (sector kept dropped : List ℕ)
       → One (λ (a : Salvaged × (List ℕ × List ℕ)). Salvages sector kept dropped (a .1 .0) (a .1 .1) (a .0))
@@ -207,3 +218,5 @@ pub record Demands : Type 0 where
   pub book : BookRules
   -- (A9) "Salvage a sick name sector."
   pub salvage : SalvageRules
+  -- (A7) "Flags by name, and back again."
+  pub flags : FlagsRules

@@ -25,4 +25,7 @@ pub mod Unread
 pub mod Worst
 pub mod Book
 pub mod Salvage
+pub mod FlagsWanted
+pub mod FlagsLeft
+pub mod Flags
 pub mod Demands

@@ -18,6 +18,8 @@ use Rattle.run.specs.Script.{ScriptRun}
 use Rattle.state.specs.declared.Planned.{Planned}
 use Rattle.state.specs.declared.Told.{Told}
 use Rattle.book.specs.Answers.{isReadTold, countTold, Marks}
+use Rattle.flags.specs.declared.Returned.{Returned}
+use Rattle.flags.specs.Answers.{nameTold, NameMarks, BookMoves, BookReturns}
 use Rattle.plan.specs.Update.{PlanUpdated}
 use Rattle.rules.specs.Chips.{byChip}
 
@@ -87,3 +89,11 @@ pub record EveryCallSound : Type 0 where
   pub book-count : (s : State) (array : List ℕ) (sector : ℕ) (told : Told) → told ≡ countTold s array sector → IsSound s → IsSound (told .state)
   pub book-mark : (s : State) (wp : Bool) (array : List ℕ) (sector : ℕ) (scenes buffer after : List ℕ) (planned : Planned)
       → Marks s wp array sector scenes buffer after planned → IsSound s → IsSound (planned .state)
+  pub names-is-read : (s : State) (array : List ℕ) (sector : ℕ) (name : List ℕ) (told : Told) → told ≡ nameTold s array sector name → IsSound s
+      → IsSound (told .state)
+  pub names-mark : (s : State) (wp : Bool) (array : List ℕ) (sector : ℕ) (name buffer after : List ℕ) (planned : Planned)
+      → NameMarks s wp array sector name buffer after planned → IsSound s → IsSound (planned .state)
+  pub names-move : (s : State) (wp : Bool) (array : List ℕ) (book sector : ℕ) (list buffer after : List ℕ) (planned : Planned)
+      → BookMoves s wp array book sector list buffer after planned → IsSound s → IsSound (planned .state)
+  pub names-back : (s : State) (wp : Bool) (array : List ℕ) (sector book : ℕ) (list buffer after : List ℕ) (r : Returned)
+      → BookReturns s wp array sector book list buffer after r → IsSound s → IsSound (r .state)

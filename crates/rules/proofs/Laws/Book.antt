@@ -93,7 +93,7 @@ mark-refusals s wp array sector scenes buffer after planned bytes marks =
 
 -- a flag is 0 or 1, and read is 0
 module _ (array : List ℕ) (sector scene : ℕ) where
-  read-exactly : Exactly (isRead array sector scene ≡ true) (flag array sector scene ≡ 0)
+  pub read-exactly : Exactly (isRead array sector scene ≡ true) (flag array sector scene ≡ 0)
   read-exactly = record {
     when = λ e. eqb-true (flag array sector scene) 0 (sym (read-is array sector scene) ∙ e);
     only-when = λ e. read-is array sector scene ∙ eq-eqb (flag array sector scene) 0 e;
@@ -164,11 +164,11 @@ count-rules s array sector r e =
 -- ---- what a script leaves
 
 -- flags by their bits
-same-flag : (before after : List ℕ) (sector scene : ℕ) → isRead after sector scene ≡ isRead before sector scene → flag after sector scene ≡ flag before sector scene
-same-flag before after sector scene e =
-    cases (isRead before sector scene)
-    (λ t. read-exactly after sector scene .when (e ∙ t) ∙ sym (read-exactly before sector scene .when t))
-    (λ f. unread-exactly after sector scene .when (e ∙ f) ∙ sym (unread-exactly before sector scene .when f))
+pub same-flag : (before after : List ℕ) (was sector scene : ℕ) → isRead after sector scene ≡ isRead before was scene → flag after sector scene ≡ flag before was scene
+same-flag before after was sector scene e =
+    cases (isRead before was scene)
+    (λ t. read-exactly after sector scene .when (e ∙ t) ∙ sym (read-exactly before was scene .when t))
+    (λ f. unread-exactly after sector scene .when (e ∙ f) ∙ sym (unread-exactly before was scene .when f))
 
 beside-of : (sector : ℕ) (before after : List ℕ) → BesideKept sector before after → Beside sector before after
 beside-of sector before after b = record {
@@ -189,13 +189,13 @@ module _ (sector : ℕ) (scenes before after : List ℕ) where
         let listed = is-listed-exactly scene scenes .only-when record { index = i; inside = h; there = refl } in
         read-exactly after sector scene .when (all .flags scene (none-over scenes kept i h) ∙ rw listed (or-true (isRead before sector scene)));
     others-kept = λ scene h none.
-        same-flag before after sector scene (all .flags scene h ∙ rw (not-listed scene scenes none) (or-false (isRead before sector scene)));
+        same-flag before after sector sector scene (all .flags scene h ∙ rw (not-listed scene scenes none) (or-false (isRead before sector scene)));
     beside = beside-of sector before after (all .beside);
   }
 
   book-cut : OnlyListed sector scenes before after → BookCut sector scenes before after
   book-cut only = record {
-    others-kept = λ scene h none. same-flag before after sector scene (only .unlisted scene h (not-listed scene scenes none));
+    others-kept = λ scene h none. same-flag before after sector sector scene (only .unlisted scene h (not-listed scene scenes none));
     read-stays = λ scene h e. read-exactly after sector scene .when (only .stays-read scene h (read-exactly before sector scene .only-when e));
     beside = beside-of sector before after (only .beside);
   }

@@ -33,11 +33,20 @@ use Rattle.plan.specs.Refusals.{planRefusal}
 use Rattle.plan.specs.Update.{givenRecords, atFront, PlanUpdated, Plans}
 use Rattle.plan.proofs.Laws.Update.{plan-update-determined}
 use Rattle.samples.proofs.Laws.Sessions.{samples-hold}
-use Rattle.book.specs.Book.{wantedPart}
+use Rattle.book.specs.Book.{isRead, wantedPart}
 use Rattle.book.specs.Refusals.{bookRefusal}
 use Rattle.book.specs.Answers.{isReadTold, countTold, Marks}
 use Rattle.book.proofs.Laws.Answers.{marks-refused, marks-planned, marks-determined}
-use Rattle.names.specs.Records.{padded}
+use Rattle.promises.specs.Promises.{PlansUnless}
+use Rattle.promises.proofs.Laws.Unless.{unless-refused, unless-planned, unless-determined}
+use Rattle.names.specs.Records.{namesOf, padded}
+use Rattle.namelist.specs.Listed.{listed, namesIn}
+use Rattle.sectors.specs.Images.{sectorPart, wantedMark}
+use Rattle.sectors.specs.Moves.{wantedMove, wantedBack, unlisted}
+use Rattle.flags.specs.declared.Returned.{Returned}
+use Rattle.flags.specs.Refusals.{markRefusal, moveRefusal, backRefusal}
+use Rattle.flags.specs.Answers.{nameTold, refusedReturn, returnedOf, BookReturns}
+use Rattle.flags.proofs.Laws.Answers.{returns-refused, returns-planned, returns-determined}
 use Rattle.salvage.specs.declared.Salvaged.{Salvaged}
 use Rattle.salvage.specs.Pieces.{keptBytes, droppedBytes}
 use Rattle.salvage.specs.Answers.{salvageRefusal, refusedSalvage, salvagedOf, Salvages}
@@ -79,6 +88,7 @@ use Rattle.rules.proofs.Laws.Unread.{unread-rules}
 use Rattle.rules.proofs.Laws.Worst.{worst-rules}
 use Rattle.rules.proofs.Laws.Book.{book-rules}
 use Rattle.rules.proofs.Laws.Salvage.{salvage-rules}
+use Rattle.rules.proofs.Laws.Flags.{flags-rules}
 
 -- ---- demand 1
 
@@ -168,6 +178,45 @@ mark-answers s wp array sector scenes buffer =
       only = λ other p i. let e = marks-determined s wp array sector scenes buffer _ _ _ _ p made in (e .0 i, e .1 i);
     }
 
+-- a call's own refusal about names, or the plan's one answer for the sector that is wanted
+unless-answers : (own : ℕ) (s : State) (wp : Bool) (array : List ℕ) (start : ℕ) (wanted buffer : List ℕ)
+    → One (λ (a : Planned × List ℕ). PlansUnless own s wp array start wanted buffer (a .1) (a .0))
+unfolding Plans
+unless-answers own s wp array start wanted buffer =
+    ⊎-elim (λ h. only-one (refusedPlan own s) buffer (unless-refused own s wp array start wanted buffer own h refl))
+    (λ h. let plan = plan-answers s wp array start wanted buffer in
+    only-one (plan .answer .0) (plan .answer .1) (unless-planned own s wp array start wanted buffer (plan .answer .1) (plan .answer .0) (omega arith) (plan .given)))
+    (split 0 own)
+  where
+    only-one : (planned : Planned) (after : List ℕ) → PlansUnless own s wp array start wanted buffer after planned
+        → One (λ (a : Planned × List ℕ). PlansUnless own s wp array start wanted buffer (a .1) (a .0))
+    only-one planned after made = record {
+      answer = (planned, after);
+      given = made;
+      only = λ other p i. let e = unless-determined own s wp array start wanted buffer _ _ _ _ p made in (e .0 i, e .1 i);
+    }
+
+-- and the way back's, with its count
+back-answers : (s : State) (wp : Bool) (array : List ℕ) (sector book : ℕ) (list buffer : List ℕ)
+    → One (λ (a : Returned × List ℕ). BookReturns s wp array sector book list buffer (a .1) (a .0))
+unfolding Plans
+back-answers s wp array sector book list buffer =
+    let number : ℕ = backRefusal s array sector book list in
+    let want : List ℕ = wantedBack (namesOf (sectorPart array sector)) (namesIn (listed list)) in
+    let count : ℕ = unlisted (namesIn (listed list)) (namesOf (sectorPart array sector)) in
+    ⊎-elim (λ h. only-one (refusedReturn number s) buffer (returns-refused s wp array sector book list buffer number h refl))
+    (λ h. let plan = plan-answers s wp array book want buffer in
+    only-one (returnedOf (plan .answer .0) count) (plan .answer .1)
+    (returns-planned s wp array sector book list buffer (plan .answer .1) (plan .answer .0) count (omega arith) (plan .given) refl)) (split 0 number)
+  where
+    only-one : (r : Returned) (after : List ℕ) → BookReturns s wp array sector book list buffer after r
+        → One (λ (a : Returned × List ℕ). BookReturns s wp array sector book list buffer (a .1) (a .0))
+    only-one r after made = record {
+      answer = (r, after);
+      given = made;
+      only = λ other p i. let e = returns-determined s wp array sector book list buffer _ _ _ _ p made in (e .0 i, e .1 i);
+    }
+
 -- its refusal, or both buffers
 salvage-answers : (sector kept dropped : List ℕ) → One (λ (a : Salvaged × (List ℕ × List ℕ)). Salvages sector kept dropped (a .1 .0) (a .1 .1) (a .0))
 salvage-answers sector kept dropped =
@@ -211,6 +260,13 @@ answers = record {
   book-is-read = λ s array sector scene. named (isReadTold s array sector scene);
   book-count = λ s array sector. named (countTold s array sector);
   book-mark = mark-answers;
+  names-is-read = λ s array sector name. named (nameTold s array sector name);
+  names-mark = λ s wp array sector name buffer.
+      unless-answers (markRefusal s array sector name) s wp array sector (wantedMark (sectorPart array sector) name) buffer;
+  names-move = λ s wp array book sector list buffer.
+      unless-answers (moveRefusal s array book sector list) s wp array sector
+      (wantedMove (sectorPart array sector) (isRead array book) (namesIn (listed list))) buffer;
+  names-back = back-answers;
   salvage = salvage-answers;
   read = read-answers;
   read-part = λ script offset. named (framePart script offset);
@@ -284,4 +340,5 @@ demands-met = record {
   worst = worst-rules;
   book = book-rules;
   salvage = salvage-rules;
+  flags = flags-rules;
 }

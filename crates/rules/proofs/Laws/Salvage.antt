@@ -42,7 +42,7 @@ module _ (sector : List ℕ) (at : ℕ) (name : List ℕ) (good : isName name �
   record-byte i h =
       sym (getD-drop at sector i 0) ∙ sym (getD-take (3 + length name) (drop at sector) i 0 h) ∙ ap (λ (l : List ℕ). getD l i 0) is
 
-  good-record : GoodRecord sector at (3 + length name)
+  pub good-record : GoodRecord sector at (3 + length name)
   good-record = record {
     whole = record-whole;
     first = ap (λ (k : ℕ). getD sector k 0) (sym (add-zero at)) ∙ record-byte 0 (omega arith);
@@ -100,7 +100,7 @@ module _ (sector : List ℕ) (at n : ℕ) (g : GoodRecord sector at n) where
       let long = g .length-is in
       drop-cons sector at 0 (omega arith) ∙ rw (g .first, two, drop-cons sector (at + 1) 0 (omega arith), g .second, three, drop-cons sector (at + 2) 0 (omega arith), four) refl
 
-  good-found : front (drop at sector) ≡ none → ⊥
+  pub good-found : front (drop at sector) ≡ none → ⊥
   good-found e =
       let is : drop at sector ≡ recordBytes true name ++ drop m behind = opened-at ∙ rw (name-long, take-append-drop m behind) refl in
       let clash : none ≡ item name (drop m behind) = sym e ∙ front-exactly (drop at sector) name (drop m behind) .only-when record { good = name-good; is = is } in

@@ -20,6 +20,7 @@ use Rattle.frame.proofs.Laws.Sound.{frame-sound, cut-sound}
 use Rattle.run.proofs.Laws.Script.{script-sound}
 use Rattle.state.specs.declared.Told.{Told}
 use Rattle.book.proofs.Laws.Answers.{is-read-state, count-state, marks-state}
+use Rattle.flags.proofs.Laws.Answers.{name-state, name-marks-state, moves-state, returns-state}
 use Rattle.rules.specs.Soundness.{SoundState, Soundness, EveryCallSound}
 use Rattle.rules.proofs.Laws.Chips.{data-by-chip}
 use Rattle.rules.proofs.Laws.Tests.{off}
@@ -114,4 +115,8 @@ every-call-sound = record {
   book-is-read = λ s array sector scene told e h. ap (λ (t : Told). isSound (t .state)) e ∙ ap isSound (is-read-state s array sector scene) ∙ h;
   book-count = λ s array sector told e h. ap (λ (t : Told). isSound (t .state)) e ∙ ap isSound (count-state s array sector) ∙ h;
   book-mark = λ s wp array sector scenes buffer after planned m h. ap isSound (marks-state s wp array sector scenes buffer after planned m) ∙ h;
+  names-is-read = λ s array sector name told e h. ap (λ (t : Told). isSound (t .state)) e ∙ ap isSound (name-state s array sector name) ∙ h;
+  names-mark = λ s wp array sector name buffer after planned m h. ap isSound (name-marks-state s wp array sector name buffer after planned m) ∙ h;
+  names-move = λ s wp array book sector list buffer after planned m h. ap isSound (moves-state s wp array book sector list buffer after planned m) ∙ h;
+  names-back = λ s wp array sector book list buffer after r m h. ap isSound (returns-state s wp array sector book list buffer after r m) ∙ h;
 }
