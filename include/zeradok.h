@@ -7,7 +7,7 @@
  *
  * What a caller owes, which no call can test:
  *  - a slice is a pointer and a length, and all bytes of the length can be read, and written where the pointer is not const.
- *    An empty slice may have any pointer, NULL too. The length of `scenes` counts its numbers, not its bytes;
+ *    An empty slice may have any pointer, NULL too. The length of `scenes` counts numbers and not bytes, that of `list` bytes and not names;
  *  - `chip` of the frame calls points to one zeradok_state, and `scenes` to its first number, each aligned as C aligns it;
  *  - what a call may write (the state behind `chip`, array, output, buffer, kept, dropped) overlaps nothing else that the same call is passed;
  *    what it only reads may overlap;
@@ -23,8 +23,11 @@
  *     nothing else has moved. (The F25L05PA may stand unprotected.)
  * A game with one flag a scene needs no wanted bytes, if it keeps its flags in the flag book (below; examples/c/book.c). zeradok_book_mark is then
  * called in place of zeradok_plan, in 1 and in 3, where the same list is marked again.
+ * A game that knows its scenes by name keeps them in a name sector (below; examples/c/flags.c). zeradok_names_mark is then called in place of
+ * zeradok_plan. A name takes two plans, so it is called, and its script sent, until the script is empty; in 3 the same name is marked again, with
+ * ZERADOK_WORST_BYTES. zeradok_names_move takes the flags from a flag book to a name sector, zeradok_names_back from there to a book.
  * A sector of names in which a mark is damaged gives back what is still good by zeradok_salvage (below; examples/c/salvage.c). It works on an image of
- * the sector, in memory, and what it leaves there is not for writing back: its warning says why.
+ * the sector, in memory, and what it leaves there is not for writing back: its warning says why, and what to do.
  * Beside a real chip the model gets each frame and wait too, so that state and array stay the chip's; after power-up the array is read back
  * (03). The waits are the sheets' typical times: wait on until bit 0 of the status (05) is 0. The F25L05PA's status write (01) takes no time
  * here but up to 15 ms there (40 ms below 2.7 V): wait for bit 0 behind it as well. A 05 between 06 or 50 and the 01 would spoil the 01.
@@ -42,8 +45,9 @@
 extern "C" {
 #endif
 
-/* The worst case of an accepted plan, zeradok_book_mark's too. None is above it, and zeradok_plan reaches each number: on the F25L05PA all by one
- * plan, on the F25L008A the bytes with the frames or with the microseconds.
+/* The worst case of an accepted plan, those of the flag book and of names too (where marking and moving take two plans, it is that of each). None is
+ * above it, and zeradok_plan reaches each number: on the F25L05PA all by one plan, on the F25L008A the bytes with the frames or with the
+ * microseconds.
  *               bytes   frames   microseconds
  *   F25L008A   26,672    3,079         14,343
  *   F25L05PA    4,441       38         25,500
@@ -72,6 +76,9 @@ typedef struct { uint32_t number, kind; size_t start, length; uint32_t microseco
 
 /* A question's answer: 1 or 0, or how many; 0 with a refusal. */
 typedef struct { uint32_t number; zeradok_state state; uint32_t value; } zeradok_told;
+
+/* A way back planned: the script as in zeradok_planned; unlisted: how many records have a name that is not on the list, 0 with a refusal. */
+typedef struct { uint32_t number; zeradok_state state; uint32_t length, frames, microseconds, unlisted; } zeradok_returned;
 
 /* length: bytes of the list of dropped stretches; kept: bytes of the kept records. Both 0 with a refusal. */
 typedef struct { uint32_t number, length, kept; } zeradok_salvaged;
@@ -149,7 +156,78 @@ zeradok_planned zeradok_book_mark(zeradok_state chip, bool wp_high, const uint8_
                                   const uint32_t *scenes, size_t scenes_length, uint8_t *buffer, size_t buffer_length);
 
 /* A name sector keeps scenes by name: records from the sector's start on, one behind the other, each the mark 4E 52 ("NR"), a length of 1 to 32 and
- * so many bytes 20 to 7E, the scene's name. The first place without a whole good record ends them, so a damaged mark hides every name behind it. */
+ * so many bytes 20 to 7E, the scene's name. A scene is read if a record has its name. The first place without a whole good record ends them, even
+ * where good ones stand behind it, so a damaged mark hides every name behind it.
+ * The sector is one of its own: all its 4,096 bytes are for names, and behind the last record they are FF. In an erased one no scene is read.
+ * A name is bytes and their number, with no 00 behind them: "rooftop" has the length 7. Names are equal if all their bytes are.
+ * A list has the names by position, scene 0's first: a length byte of 1 to 32 and so many bytes 20 to 7E, by turns, to the end of the slice. It has
+ * at most 4,096 names, and may be empty.
+ *
+ * Marking a name and moving a book take two plans. The first writes lengths and names, the second the marks in front of them. So no mark ever stands
+ * in front of a half-written name: a power cut never makes up a name. The call sees in the array which plan is due. Call it, send its script, and
+ * call it again with the same arguments until the length is 0; a number above 0 ends it too, with nothing planned:
+ *     for (;;) {
+ *         zeradok_planned plan = zeradok_names_mark(...);
+ *         if (plan.number != 0 || plan.length == 0) return plan.number;
+ *         send_script(script, plan.length); // whether the power went in it or not: the next call goes on from what the chip holds
+ *     }
+ * After a power cut call the same again, before any other name is marked in that sector. Lend ZERADOK_WORST_BYTES every time, and 10 never comes.
+ * (22 bytes more than the cut plan had are enough for the rest of that plan. But if all its bytes were through, the second plan is next, and that may
+ * need more.)
+ * A plan belongs to the array that it was made for. Sending it to a chip that holds something else by then may do harm, and no call can test that:
+ * send each script before anything else is planned, and never keep one for later. */
+
+/* Tells whether the name is read: 1 where a record of the sector has it, else 0. It looks at the array alone: a chip that is busy, in AAI or in
+ * power-down is not refused. Changes nothing; the state comes back as given. Refusals, in this order, all slips of the program: 1 state, 2 array
+ * length, 15 a sector start that isn't a multiple of 4,096 inside the chip, 18 a bad name: a length of 0 or over 32, or a byte outside 20 to 7E. */
+zeradok_told zeradok_names_is_read(zeradok_state chip, const uint8_t *array, size_t array_length, size_t sector, const uint8_t *name, size_t name_length);
+
+/* Plans the next script that marking the name takes, at the front of buffer: first its length and the name, behind the records that are there, then
+ * its mark. Changes buffer only; the state comes back as given. Where a record has the name the script is empty, whatever stands behind the records.
+ * Refusals, in this order:
+ * 1 state, 2 array length, 15 and 18 as above: slips of the program;
+ * 20 no record has the name, and its own, 3 bytes and the name, doesn't fit behind those that are there: the sector is full. Erase another and mark
+ *    the names in it that are still needed;
+ * 7 not at rest: as at zeradok_plan, also where the script would be empty;
+ * 8 behind the records stands something else than FF or this record's own bytes. If the marking of another name was cut there, finish that one
+ *    first. If not, or if nobody knows which, erase another sector and mark the names of this one in it;
+ * 9 protected with BPL 1 and WP low, 10 the buffer is too short: as at zeradok_plan. Its 6 never comes.
+ * After a power cut the sector has the names from before, or those and this one behind them. Mark the same name again: that is neither an 8 nor a 20,
+ * and when both scripts are sent the name is read, all earlier ones still are, and behind its record all is FF. */
+zeradok_planned zeradok_names_mark(zeradok_state chip, bool wp_high, const uint8_t *array, size_t array_length, size_t sector,
+                                   const uint8_t *name, size_t name_length, uint8_t *buffer, size_t buffer_length);
+
+/* Plans the next script that moving a flag book into a name sector takes, at the front of buffer: a record for each scene that is read in the book,
+ * in the order of the list, first all lengths and names, then all marks. `book` and `sector` are the addresses where the two start. Changes buffer
+ * only; the state comes back as given. The book stays as it is. The name sector has to be erased. Refusals, in this order:
+ * 1 state, 2 array length, 15 as above, for either start, 6 both starts are equal: slips of the program;
+ * 18 a bad list: a length of 0 or over 32, a byte outside 20 to 7E, a last name cut short, or over 4,096 names; or the book has a read scene for
+ *    which the list is too short: name that scene too;
+ * 19 a name stands twice in the list, whether its scenes are read or not. The two would become one: rename a scene;
+ * 20 the records take more than 4,096 bytes (just 4,096 still go in): take shorter names, or stay with the book;
+ * 7 not at rest: as at zeradok_plan;
+ * 8 the sector isn't erased, and what stands there isn't what this move has written: take another, or erase it if no name in it is needed;
+ * 9 protected with BPL 1 and WP low, 10 the buffer is too short: as at zeradok_plan.
+ * After a power cut the sector has the names of the first few read scenes, in the order of the list, or none. Move again by the same list: that goes
+ * on. When the length is 0 the book is moved. Let the game note that in a place of its own and move no more: a name marked since would be an 8. */
+zeradok_planned zeradok_names_move(zeradok_state chip, bool wp_high, const uint8_t *array, size_t array_length, size_t book, size_t sector,
+                                   const uint8_t *list, size_t list_length, uint8_t *buffer, size_t buffer_length);
+
+/* Plans the script that takes a name sector back into a flag book, at the front of buffer. It is one plan: a scene turns read if its name, by its
+ * position in the list, has a record. Changes buffer only; the state comes back as given. The name sector stays as it is. The book's sector has to be
+ * erased, the 3,584 bytes behind the book too; only scenes that have a record may be read there already. `unlisted` tells how many records have a
+ * name that is not on the list, equal ones each counted: the book has no place for them. It is told where the script is empty, too. Refusals, in this
+ * order:
+ * 1 state, 2 array length, 15 as above, for either start, 6 both starts are equal: slips of the program;
+ * 18 a bad list as above (which scenes are read makes no difference here), 19 a name stands twice in it;
+ * 7 not at rest: as at zeradok_plan;
+ * 8 in the book's sector a scene is read that has no record, or something stands behind the book: take another, or erase it if it isn't needed;
+ * 9 protected with BPL 1 and WP low, 10 the buffer is too short: as at zeradok_plan.
+ * After a power cut no scene has turned read but those of the list whose names have a record. Plan the way back again, with 22 bytes more room or
+ * with ZERADOK_WORST_BYTES every time: that is accepted, and once sent it is finished.
+ * Move a book, then take it back by the same list into another sector: all 4,096 flags are as they were, and unlisted is 0. */
+zeradok_returned zeradok_names_back(zeradok_state chip, bool wp_high, const uint8_t *array, size_t array_length, size_t sector, size_t book,
+                                    const uint8_t *list, size_t list_length, uint8_t *buffer, size_t buffer_length);
 
 #define ZERADOK_LONGEST_DROPPED 3280 /* a list of this length never meets refusal 10 */
 
@@ -169,9 +247,10 @@ zeradok_planned zeradok_book_mark(zeradok_state chip, bool wp_high, const uint8_
  *
  * WARNING: do not write kept to a chip where a power cut can come. One plan writes marks and names together, and a cut may leave a whole mark in
  * front of a half-written name: a reader then meets a made-up one. Nor does a plan write over the old names (refusal 8) before they are erased, and
- * then a cut costs them all. So leave the old sector untouched, let the game go by kept, in memory, and salvage again at each start. The safe way
- * will be to erase another sector and mark the kept names in it one by one, names and lengths by one plan, marks by a second. The calls for that (02,
- * A11 and A7) are still to come. */
+ * then a cut costs them all. So leave the old sector untouched, let the game go by kept, in memory, and salvage again at each start. The safe way to
+ * the chip: erase another sector, then mark the kept names that the game has in it, one by one, by zeradok_names_mark. Until all are marked the old
+ * sector counts: a cut in the erase can leave anything in the new one, so begin again with the erase then, and a cut in a marking only asks for the
+ * same name again. When all are, let the game note that the new one counts. (A call that plans the erase, 02's A11, is still to come.) */
 zeradok_salvaged zeradok_salvage(const uint8_t *sector, size_t sector_length, uint8_t *kept, size_t kept_length,
                                  uint8_t *dropped, size_t dropped_length);
 

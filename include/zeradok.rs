@@ -103,6 +103,17 @@ pub struct Told {
 
 #[repr(C)]
 #[derive(Clone, Copy, Debug, PartialEq, Eq)]
+pub struct Returned {
+    pub number: u32,
+    pub state: State,
+    pub length: u32,
+    pub frames: u32,
+    pub microseconds: u32,
+    pub unlisted: u32,
+}
+
+#[repr(C)]
+#[derive(Clone, Copy, Debug, PartialEq, Eq)]
 pub struct Salvaged {
     pub number: u32,
     pub length: u32,
@@ -183,6 +194,49 @@ unsafe extern "C" {
         buffer: *mut u8,
         buffer_length: usize,
     ) -> Planned;
+    fn zeradok_names_is_read(
+        chip: State,
+        array: *const u8,
+        array_length: usize,
+        sector: usize,
+        name: *const u8,
+        name_length: usize,
+    ) -> Told;
+    fn zeradok_names_mark(
+        chip: State,
+        wp_high: bool,
+        array: *const u8,
+        array_length: usize,
+        sector: usize,
+        name: *const u8,
+        name_length: usize,
+        buffer: *mut u8,
+        buffer_length: usize,
+    ) -> Planned;
+    fn zeradok_names_move(
+        chip: State,
+        wp_high: bool,
+        array: *const u8,
+        array_length: usize,
+        book: usize,
+        sector: usize,
+        list: *const u8,
+        list_length: usize,
+        buffer: *mut u8,
+        buffer_length: usize,
+    ) -> Planned;
+    fn zeradok_names_back(
+        chip: State,
+        wp_high: bool,
+        array: *const u8,
+        array_length: usize,
+        sector: usize,
+        book: usize,
+        list: *const u8,
+        list_length: usize,
+        buffer: *mut u8,
+        buffer_length: usize,
+    ) -> Returned;
     fn zeradok_salvage(
         sector: *const u8,
         sector_length: usize,
@@ -324,6 +378,87 @@ pub fn book_mark(
             sector,
             scenes.as_ptr(),
             scenes.len(),
+            buffer.as_mut_ptr(),
+            buffer.len(),
+        )
+    }
+}
+
+pub fn names_is_read(chip: State, array: &[u8], sector: usize, name: &[u8]) -> Told {
+    unsafe {
+        zeradok_names_is_read(chip, array.as_ptr(), array.len(), sector, name.as_ptr(), name.len())
+    }
+}
+
+pub fn names_mark(
+    chip: State,
+    wp_high: bool,
+    array: &[u8],
+    sector: usize,
+    name: &[u8],
+    buffer: &mut [u8],
+) -> Planned {
+    unsafe {
+        zeradok_names_mark(
+            chip,
+            wp_high,
+            array.as_ptr(),
+            array.len(),
+            sector,
+            name.as_ptr(),
+            name.len(),
+            buffer.as_mut_ptr(),
+            buffer.len(),
+        )
+    }
+}
+
+/// From the book to the names: `book` is the source, `sector` the erased target.
+pub fn names_move(
+    chip: State,
+    wp_high: bool,
+    array: &[u8],
+    book: usize,
+    sector: usize,
+    list: &[u8],
+    buffer: &mut [u8],
+) -> Planned {
+    unsafe {
+        zeradok_names_move(
+            chip,
+            wp_high,
+            array.as_ptr(),
+            array.len(),
+            book,
+            sector,
+            list.as_ptr(),
+            list.len(),
+            buffer.as_mut_ptr(),
+            buffer.len(),
+        )
+    }
+}
+
+/// From the names to the book: `sector` is the source, `book` the erased target.
+pub fn names_back(
+    chip: State,
+    wp_high: bool,
+    array: &[u8],
+    sector: usize,
+    book: usize,
+    list: &[u8],
+    buffer: &mut [u8],
+) -> Returned {
+    unsafe {
+        zeradok_names_back(
+            chip,
+            wp_high,
+            array.as_ptr(),
+            array.len(),
+            sector,
+            book,
+            list.as_ptr(),
+            list.len(),
             buffer.as_mut_ptr(),
             buffer.len(),
         )

@@ -60,6 +60,6 @@ int main(void)
     show("salvaged", kept);
     printf("kept: %u bytes of records\n", answer.kept);
     show_dropped(dropped, answer.length);
-    /* The game now goes by `kept`, in memory. It doesn't write it to the chip, where a power cut in the middle could make up a name:
-     * the old sector stays as it is, and at the next start it is salvaged again. */
+    /* The game goes by `kept`, in memory, and salvages again at the next start. Written to the chip as it is, a cut could make up a
+     * name: the old sector stays untouched. The kept names may be marked one by one in another, erased sector (flags.c has how). */
 }

@@ -57,6 +57,14 @@ FIELD(zeradok_told, number, 0);
 FIELD(zeradok_told, state, 4);
 FIELD(zeradok_told, value, 20);
 
+SIZE(zeradok_returned, 36);
+FIELD(zeradok_returned, number, 0);
+FIELD(zeradok_returned, state, 4);
+FIELD(zeradok_returned, length, 20);
+FIELD(zeradok_returned, frames, 24);
+FIELD(zeradok_returned, microseconds, 28);
+FIELD(zeradok_returned, unlisted, 32);
+
 SIZE(zeradok_salvaged, 12);
 FIELD(zeradok_salvaged, number, 0);
 FIELD(zeradok_salvaged, length, 4);

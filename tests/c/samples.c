@@ -1,5 +1,5 @@
-/* 01's sample sessions, a plan of each chip, the flag book, salvaged name sectors and the refusals 1 to 15, by a C program that knows
- * include/zeradok.h and nothing else. Every byte of each output and of the array is compared. */
+/* 01's sample sessions, a plan of each chip, the flag book, salvaged name sectors, flags by name and the refusals 1 to 15 and 18 to 20, by a C
+ * program that knows include/zeradok.h and nothing else. Every byte of each output and of the array is compared. */
 #include "zeradok.h"
 
 #include <stdio.h>
@@ -866,6 +866,597 @@ static bool salvage_refusals(void)
     return refused && salvage_refused(10, SECTOR, SECTOR, 0) && salvage_refused(10, SECTOR, SECTOR, 3) && drops("00 00 00 0B");
 }
 
+/* ---- flags by name: a record each, by two plans; NAMES, BOOK and THIRD are sectors */
+
+enum { NAMES = 0x1000, BOOK = 0x3000, THIRD = 0x5000 };
+
+static const uint8_t rooftop_by_word[] = {
+    0x5A, 0x46, 0x00, 0x01, 0x06,
+    0x5A, 0x46, 0x00, 0x06, 0xAD, 0x00, 0x10, 0x02, 0x07, 0x72,
+    0x5A, 0x57, 0x00, 0x00, 0x00, 0x07,
+    0x5A, 0x46, 0x00, 0x03, 0xAD, 0x6F, 0x6F,
+    0x5A, 0x57, 0x00, 0x00, 0x00, 0x07,
+    0x5A, 0x46, 0x00, 0x03, 0xAD, 0x66, 0x74,
+    0x5A, 0x57, 0x00, 0x00, 0x00, 0x07,
+    0x5A, 0x46, 0x00, 0x03, 0xAD, 0x6F, 0x70,
+    0x5A, 0x57, 0x00, 0x00, 0x00, 0x07,
+    0x5A, 0x46, 0x00, 0x01, 0x04,
+};
+static const uint8_t mark_by_word[] = {
+    0x5A, 0x46, 0x00, 0x01, 0x06,
+    0x5A, 0x46, 0x00, 0x06, 0xAD, 0x00, 0x10, 0x00, 0x4E, 0x52,
+    0x5A, 0x57, 0x00, 0x00, 0x00, 0x07,
+    0x5A, 0x46, 0x00, 0x01, 0x04,
+};
+static const uint8_t rooftop_by_page[] = {
+    0x5A, 0x46, 0x00, 0x01, 0x06,
+    0x5A, 0x46, 0x00, 0x0C, 0x02, 0x00, 0x10, 0x02, 0x07, 0x72, 0x6F, 0x6F, 0x66, 0x74, 0x6F, 0x70,
+    0x5A, 0x57, 0x00, 0x00, 0x05, 0xDC,
+};
+static const uint8_t mark_by_page[] = {
+    0x5A, 0x46, 0x00, 0x01, 0x06,
+    0x5A, 0x46, 0x00, 0x06, 0x02, 0x00, 0x10, 0x00, 0x4E, 0x52,
+    0x5A, 0x57, 0x00, 0x00, 0x05, 0xDC,
+};
+
+/* the array should become this, from the address on */
+static bool will_be(size_t address, const char *hex)
+{
+    bytes_of(hex, expected + address);
+    return true;
+}
+
+/* the array is this before anything is called */
+static bool stands(size_t address, const char *hex)
+{
+    return will_be(address, hex) && memcpy(array + address, expected + address, bytes_of(hex, input)) != NULL;
+}
+
+/* records of one letter, an "x" each, from the sector's start up to the place, a multiple of 4 */
+static bool stand_up_to(size_t sector, size_t place)
+{
+    bool laid_out = true;
+    for (size_t at = 0; at < place; at += 4) laid_out = laid_out && stands(sector + at, "4E 52 01 78");
+    return laid_out;
+}
+
+static bool asked(uint32_t number, uint32_t value, size_t sector, const char *name, size_t length)
+{
+    return tells(zeradok_names_is_read(chip, array, size, sector, length ? (const uint8_t *)name : NULL, length), number, value);
+}
+
+static bool has_name(size_t sector, const char *name)
+{
+    return asked(0, 1, sector, name, strlen(name));
+}
+
+static bool has_no(size_t sector, const char *name)
+{
+    return asked(0, 0, sector, name, strlen(name));
+}
+
+/* plans the next script of a marking, of a name with so many bytes, in so much room */
+static bool marks_name(size_t sector, const char *name, size_t length, size_t room, zeradok_planned answer)
+{
+    fill_buffers();
+    return answers(zeradok_names_mark(chip, wp_high, array, size, sector, length ? (const uint8_t *)name : NULL, length, room ? buffer : NULL, room),
+                   answer);
+}
+
+static bool name_refused(uint32_t number, size_t sector, const char *name)
+{
+    return marks_name(sector, name, strlen(name), sizeof buffer, (zeradok_planned){.number = number})
+        && marks_name(sector, name, strlen(name), 0, (zeradok_planned){.number = number});
+}
+
+/* nothing is left to mark */
+static bool name_stands(size_t sector, const char *name)
+{
+    return has_name(sector, name) && marks_name(sector, name, strlen(name), 0, (zeradok_planned){0});
+}
+
+/* just enough room, after a byte too few */
+static bool name_plans(size_t sector, const char *name, zeradok_planned answer)
+{
+    const zeradok_planned short_of_room = {.number = 10};
+    const size_t length = strlen(name);
+    return marks_name(sector, name, length, 0, short_of_room) && marks_name(sector, name, length, answer.length - 1, short_of_room)
+        && marks_name(sector, name, length, answer.length, answer);
+}
+
+/* runs the plan made last, to what the array should become */
+static bool carried_out(zeradok_planned p)
+{
+    static uint8_t outputs[ZERADOK_WORST_BYTES], silence[ZERADOK_WORST_BYTES];
+    const size_t count = zeradok_survey(buffer, p.length).output;
+    memset(outputs, 0xA5, sizeof outputs);
+    memset(silence, 0xFF, sizeof silence);
+    zeradok_ran r = zeradok_run(chip, wp_high, array, size, buffer, p.length, outputs, count);
+    chip = r.state;
+    return r.number == 0 && r.frames == p.frames && r.microseconds == p.microseconds && memcmp(outputs, silence, count) == 0
+        && memcmp(array, expected, size) == 0;
+}
+
+/* the plan of so many words in so many runs, or of one page with so many bytes */
+static zeradok_planned writes(uint8_t number, uint32_t words, uint32_t runs_of_words, uint32_t page_bytes)
+{
+    if (number == F25L05PA) return one_write(number, page_bytes, false);
+    return (zeradok_planned){.length = 13 * (words + runs_of_words), .frames = words + 2 * runs_of_words, .microseconds = 7 * words};
+}
+
+static zeradok_planned unprotecting(zeradok_planned p)
+{
+    p.length += 22;
+    p.frames += 4;
+    return p;
+}
+
+/* on an F25L008A, which is protected after a cut */
+static zeradok_planned after_a_cut(uint8_t number, zeradok_planned p)
+{
+    return number == F25L008A ? unprotecting(p) : p;
+}
+
+/* each script is the one written out; behind the first the name isn't read */
+static bool names_first(uint8_t number)
+{
+    const bool words = number == F25L008A;
+    const zeradok_planned first = writes(number, 4, 1, 8), second = writes(number, 1, 1, 2);
+    return blank(number) && silent(words ? "50" : "06") && has_no(NAMES, "rooftop")
+        && name_plans(NAMES, "rooftop", first) && memcmp(buffer, words ? rooftop_by_word : rooftop_by_page, first.length) == 0
+        && will_be(NAMES + 2, "07 72 6F 6F 66 74 6F 70") && carried_out(first) && has_no(NAMES, "rooftop")
+        && name_plans(NAMES, "rooftop", second) && memcmp(buffer, words ? mark_by_word : mark_by_page, second.length) == 0
+        && will_be(NAMES, "4E 52") && carried_out(second) && name_stands(NAMES, "rooftop") && has_no(0, "rooftop") && has_no(NAMES, "x")
+        && name_plans(NAMES, "x", second) && will_be(NAMES + 12, "01 78") && carried_out(second) && has_no(NAMES, "x")
+        && name_plans(NAMES, "x", second) && will_be(NAMES + 10, "4E 52") && carried_out(second)
+        && name_stands(NAMES, "x") && name_stands(NAMES, "rooftop");
+}
+
+/* The first place without a whole good record ends them: a mark that is damaged, in either byte, a length that is none, a byte that is none. A record
+ * may end with the sector and not behind it, though the next sector goes on with the name. */
+static bool names_records(uint8_t number)
+{
+    static const char *const bad[] = {"4C 52 01 62", "4E 50 01 62", "4E 52 00 62", "4E 52 21 62", "4E 52 01 1F", "4E 52 01 7F", "FF FF 01 62", "FF"};
+    bool good = true;
+    for (size_t i = 0; i < sizeof bad / sizeof *bad; i++)
+        good = good && erased(number) && stands(0, "4E 52 01 61") && stands(4, bad[i]) && stands(8, "4E 52 01 63")
+            && has_name(0, "a") && has_no(0, "b") && has_no(0, "c");
+    return good && erased(number) && stands(0, "4E 52 01 61 4E 52 01 62 4E 52 01 61 4E 52 01 63") && has_name(0, "a") && has_name(0, "b")
+        && has_name(0, "c") && erased(number) && stand_up_to(NAMES, 4092) && stands(NAMES + 4092, "4E 52 01 79 4E 52 01 7A")
+        && has_name(NAMES, "y") && has_no(NAMES, "z")
+        && stands(NAMES + 4092, "4E 52 02 79 7A") && has_no(NAMES, "yz") && has_no(NAMES, "y") && has_name(NAMES, "x")
+        && has_no(NAMES + SECTOR, "z") && has_no(0, "x");
+}
+
+/* not the name's front, nor a name that begins with it, nor one with other capitals, with a space or with its last byte changed; the name may be lent
+ * from the array itself */
+static bool names_compared(uint8_t number)
+{
+    return blank(number) && stands(NAMES, "4E 52 07 72 6F 6F 66 74 6F 70 4E 52 01 78") && name_stands(NAMES, "rooftop") && name_stands(NAMES, "x")
+        && has_no(NAMES, "roofto") && has_no(NAMES, "rooftops") && has_no(NAMES, "Rooftop") && has_no(NAMES, "rooftop ") && has_no(NAMES, "rooftoq")
+        && has_no(NAMES, "r") && has_no(NAMES, "NR") && has_no(NAMES, "X") && has_no(NAMES, "xx")
+        && marks_name(NAMES, "roof", 4, 64, writes(number, 3, 1, 5)) && will_be(NAMES + 16, "04 72 6F 6F 66") && carried_out(writes(number, 3, 1, 5))
+        && marks_name(NAMES, "rooftop\0", 7, 0, (zeradok_planned){0}) && marks_name(NAMES, (const char *)array + NAMES + 3, 7, 0, (zeradok_planned){0})
+        && asked(0, 1, NAMES, (const char *)array + NAMES + 3, 7) && asked(0, 0, NAMES, (const char *)array + NAMES + 3, 6);
+}
+
+static bool bad_name(const char *name, size_t length)
+{
+    return asked(18, 0, NAMES, name, length) && marks_name(NAMES, name, length, sizeof buffer, (zeradok_planned){.number = 18});
+}
+
+/* lengths 0, 1, 32, 33 and one that is 1 in its low byte; the bytes 1F, 20, 7E and 7F, in front, in the middle and at the end */
+static bool names_bad(uint8_t number)
+{
+    static char of_257[257];
+    const char *of_33 = "abcdefghijklmnopqrstuvwxyz0123456", *of_32 = of_33 + 1;
+    memset(of_257, 'a', sizeof of_257);
+    return blank(number) && bad_name("", 0) && bad_name(of_33, 33) && bad_name(of_257, 257) && bad_name("\x1F", 1) && bad_name("\x7F", 1)
+        && bad_name("\x1F" "ab", 3) && bad_name("a\x7F" "b", 3) && bad_name("ab\xFF", 3) && bad_name("a\0", 2) && bad_name("\x80", 1)
+        && has_no(NAMES, " ~") && marks_name(NAMES, " ~", 2, 64, writes(number, 2, 1, 3)) && has_no(NAMES, of_32)
+        && marks_name(NAMES, of_32, 32, sizeof buffer, writes(number, 17, 1, 33)) && has_no(NAMES, "a")
+        && marks_name(NAMES, "a", 1, 64, writes(number, 1, 1, 2));
+}
+
+/* ---- moving a book and going back: a list is laid name by name */
+
+static uint8_t list[SECTOR * 33 + 64];
+static size_t list_length;
+
+static bool lists(const char *hex)
+{
+    list_length = bytes_of(hex, list);
+    return true;
+}
+
+static bool lists_name(const char *name)
+{
+    const size_t length = strlen(name);
+    list[list_length] = (uint8_t)length;
+    memcpy(list + list_length + 1, name, length);
+    list_length += 1 + length;
+    return true;
+}
+
+static bool five_scenes(void)
+{
+    return lists("") && lists_name("prologue") && lists_name("station at night") && lists_name("letter") && lists_name("harbour")
+        && lists_name("rooftop");
+}
+
+static bool moves_in(size_t room, size_t book, size_t sector, zeradok_planned answer)
+{
+    fill_buffers();
+    return answers(zeradok_names_move(chip, wp_high, array, size, book, sector, list_length ? list : NULL, list_length, room ? buffer : NULL, room),
+                   answer);
+}
+
+static bool move_refused(uint32_t number, size_t book, size_t sector)
+{
+    return moves_in(sizeof buffer, book, sector, (zeradok_planned){.number = number})
+        && moves_in(0, book, sector, (zeradok_planned){.number = number});
+}
+
+/* just enough room, after a byte too few */
+static bool move_plans(size_t book, size_t sector, zeradok_planned answer)
+{
+    return moves_in(answer.length - 1, book, sector, (zeradok_planned){.number = 10}) && moves_in(answer.length, book, sector, answer);
+}
+
+static bool backs_in(size_t room, size_t sector, size_t book, zeradok_planned answer, uint32_t unlisted)
+{
+    fill_buffers();
+    zeradok_returned r
+        = zeradok_names_back(chip, wp_high, array, size, sector, book, list_length ? list : NULL, list_length, room ? buffer : NULL, room);
+    return r.unlisted == unlisted && answers((zeradok_planned){r.number, r.state, r.length, r.frames, r.microseconds}, answer);
+}
+
+static bool back_refused(uint32_t number, size_t sector, size_t book)
+{
+    return backs_in(sizeof buffer, sector, book, (zeradok_planned){.number = number}, 0)
+        && backs_in(0, sector, book, (zeradok_planned){.number = number}, 0);
+}
+
+static bool back_plans(size_t sector, size_t book, zeradok_planned answer, uint32_t unlisted)
+{
+    return backs_in(answer.length - 1, sector, book, (zeradok_planned){.number = 10}, 0) && backs_in(answer.length, sector, book, answer, unlisted);
+}
+
+/* all four calls; in the two with two sectors either is the one that isn't there, and both */
+static bool no_such_names(size_t sector)
+{
+    return asked(15, 0, sector, "x", 1) && name_refused(15, sector, "x") && move_refused(15, sector, NAMES) && move_refused(15, BOOK, sector)
+        && move_refused(15, sector, sector) && back_refused(15, sector, BOOK) && back_refused(15, NAMES, sector) && back_refused(15, sector, sector);
+}
+
+static bool names_outside(uint8_t number)
+{
+    return blank(number) && five_scenes() && no_such_names(1) && no_such_names(USED) && no_such_names(SECTOR - 1) && no_such_names(size - 1)
+        && no_such_names(size) && no_such_names(size + SECTOR) && no_such_names(SIZE_MAX) && no_such_names(SIZE_MAX - (SECTOR - 1))
+        && no_such_names((size_t)1 << 32) && has_no(size - SECTOR, "x") && moves_in(0, BOOK, size - SECTOR, (zeradok_planned){0})
+        && moves_in(0, size - SECTOR, 0, (zeradok_planned){0}) && backs_in(0, size - SECTOR, 0, (zeradok_planned){0}, 0);
+}
+
+/* all four calls, with what would be refused by every later number */
+static bool names_refused(uint32_t number, size_t sector)
+{
+    return asked(number, 0, sector, "", 0) && marks_name(sector, "", 0, 0, (zeradok_planned){.number = number})
+        && move_refused(number, sector, sector)
+        && back_refused(number, sector, sector);
+}
+
+/* In NAMES stand records up to byte 4,088 and then 00, so that a name of six letters is a 20 and one of five an 8. Taken for a book, BOOK, which
+ * also holds records, has read scenes behind the third; THIRD has the first three alone (F8). All is wrong at first, and then mended, refusal by
+ * refusal. */
+static bool names_order(uint8_t number)
+{
+    bool good = blank(number) && stand_up_to(NAMES, 4088) && stands(NAMES + 4088, "00") && stand_up_to(BOOK, 4088) && stands(THIRD, "F8")
+        && lists("01 61 01 62 01 61 00") && silent("06") && becomes(0, 0x00) && silent("02 00 00 00 00");
+    const zeradok_state busy = chip;
+    chip.bp = 8; /* not a state of the chip */
+    size--;
+    good = good && names_refused(1, 1);
+    chip = busy;
+    chip.chip = 7; /* no chip */
+    good = good && names_refused(1, 1);
+    chip = busy;
+    good = good && names_refused(2, 1);
+    size++;
+    good = good && names_refused(15, 1) && move_refused(6, NAMES, NAMES) && back_refused(6, NAMES, NAMES)
+        && asked(18, 0, NAMES, "", 0) && marks_name(NAMES, "", 0, 0, (zeradok_planned){.number = 18}) && move_refused(18, BOOK, NAMES)
+        && back_refused(18, BOOK, NAMES) && lists("01 61 01 62 01 61") && move_refused(18, BOOK, NAMES) && back_refused(19, BOOK, NAMES)
+        && move_refused(19, THIRD, NAMES) && name_refused(20, NAMES, "letter") && name_refused(7, NAMES, "abcde") && name_refused(7, NAMES, "x")
+        && lists("01 61 01 62 01 63") && move_refused(7, THIRD, NAMES) && back_refused(7, BOOK, NAMES);
+    chip.left = 0; /* not busy any more */
+    chip.wel = false;
+    return good && name_refused(8, NAMES, "abcde") && move_refused(8, THIRD, NAMES) && back_refused(8, BOOK, NAMES) && name_stands(NAMES, "x");
+}
+
+/* the questions are answered, and all else is a 7, where nothing has to change too; bad names and lists come before it */
+static bool only_asked(void)
+{
+    return has_name(NAMES, "x") && has_no(NAMES, "y") && name_refused(7, NAMES, "x") && name_refused(7, NAMES, "y") && name_refused(18, NAMES, "\x7F")
+        && lists("01 78") && move_refused(7, BOOK, THIRD) && move_refused(7, NAMES + SECTOR, THIRD) && back_refused(7, NAMES, THIRD)
+        && lists("00") && move_refused(18, BOOK, THIRD) && back_refused(18, NAMES, THIRD);
+}
+
+static bool names_not_at_rest(uint8_t number)
+{
+    const bool words = number == F25L008A;
+    bool good = blank(number) && stands(NAMES, "4E 52 01 78") && stands(BOOK, "FE") && silent("06") && becomes(0, 0x00)
+        && silent(words ? "AD 00 00 00 00 FF" : "02 00 00 00 00") && only_asked() && waited(words ? 7 : 1500);
+    if (words) good = good && only_asked() && silent("04"); /* AAI */
+    return good && name_stands(NAMES, "x") && (words || (silent("B9") && only_asked() && silent("AB")))
+        && lists("01 78") && backs_in(64, NAMES, THIRD, one_write(number, 1, false), 0);
+}
+
+/* BPL 1 and all protected: with WP low it is a 9, unless nothing has to change; with WP high each plan unprotects and protects again */
+static bool names_protected(uint8_t number)
+{
+    const zeradok_planned p = unprotecting(writes(number, 1, 1, 2)), one = one_write(number, 1, true);
+    bool good = erased(number) && stands(NAMES, "4E 52 01 78") && stands(BOOK, "FE") && lists("01 79") && silent(number == F25L008A ? "50" : "06")
+        && silent("01 9C") && status("9C");
+    wp_high = false;
+    good = good && name_refused(9, NAMES, "y") && name_stands(NAMES, "x") && move_refused(9, BOOK, THIRD) && lists("01 78")
+        && back_refused(9, NAMES, THIRD) && lists("") && backs_in(0, NAMES, THIRD, (zeradok_planned){0}, 1);
+    wp_high = true;
+    return good && name_plans(NAMES, "y", p) && will_be(NAMES + 6, "01 79") && carried_out(p) && status("9C")
+        && name_plans(NAMES, "y", p) && will_be(NAMES + 4, "4E 52") && carried_out(p) && name_stands(NAMES, "y")
+        && lists("01 78") && move_plans(BOOK, THIRD, p) && back_plans(NAMES, THIRD, one, 1) && will_be(THIRD, "FE") && carried_out(one)
+        && status("9C");
+}
+
+/* Of "ab" behind "x", at byte 4: what a cut can have left goes on, by the plan that is due; a mark before its name, a wrong bit in the mark, in the
+ * length or in the name, and anything behind the record are an 8. A name that is read has nothing to plan, whatever stands behind. */
+static bool names_dirt(uint8_t number)
+{
+    static const char *const left_by_a_cut[] = {"FF FF FF FF FF", "FF FF 02 FF FF", "FF FF FF 61 FF", "FF FF 07 71 FF"};
+    static const char *const marks_missing[] = {"FF FF 02 61 62", "4E FF 02 61 62", "FF 52 02 61 62", "6F FF 02 61 62"};
+    static const char *const wrong[] = {"4E 52 FF FF FF", "4E FF 02 61 FF", "FF 52 FF 61 62", "FF 7F 02 61 FF", "4C FF 02 61 62", "FF 50 02 61 62",
+        "FF FF 01 61 62", "FF FF 02 60 62", "FF FF 02 61 62 7F", "FF FF 02 61 62 FF 4E", "00", "4E 52 02 61 7F", "FF FF 03 61 62 63"};
+    bool good = true;
+    for (size_t i = 0; i < 4; i++) {
+        good = good && blank(number) && stands(NAMES, "4E 52 01 78") && stands(NAMES + 4, left_by_a_cut[i]) && has_no(NAMES, "ab");
+        zeradok_planned p = zeradok_names_mark(chip, wp_high, array, size, NAMES, (const uint8_t *)"ab", 2, buffer, sizeof buffer);
+        good = good && p.number == 0 && will_be(NAMES + 4, "FF FF 02 61 62") && carried_out(p) && has_no(NAMES, "ab");
+    }
+    for (size_t i = 0; i < 4; i++) {
+        good = good && blank(number) && stands(NAMES, "4E 52 01 78") && stands(NAMES + 4, marks_missing[i]) && has_no(NAMES, "ab");
+        zeradok_planned p = zeradok_names_mark(chip, wp_high, array, size, NAMES, (const uint8_t *)"ab", 2, buffer, sizeof buffer);
+        good = good && p.number == 0 && will_be(NAMES + 4, "4E 52 02 61 62") && carried_out(p) && name_stands(NAMES, "ab");
+    }
+    for (size_t i = 0; i < sizeof wrong / sizeof *wrong; i++)
+        good = good && blank(number) && stands(NAMES, "4E 52 01 78") && stands(NAMES + 4, wrong[i]) && name_refused(8, NAMES, "ab")
+            && name_stands(NAMES, "x");
+    return good && blank(number) && stands(NAMES, "4E 52 01 78") && stands(NAMES + SECTOR - 1, "FE") && name_refused(8, NAMES, "ab")
+        && name_stands(NAMES, "x");
+}
+
+/* sends 06 and the plan's first programming frame, with the power cut in it: what it leaves is given */
+static bool cut_at(const char *mask, size_t address, const char *leaves)
+{
+    static uint8_t bits[256];
+    const size_t count = bytes_of(mask, bits), length = (size_t)buffer[7] * 256 + buffer[8];
+    return silent("06") && will_be(address, leaves)
+        && zeradok_cut_frame(&chip, wp_high, array, size, buffer + 9, length, output, length, bits, count) == 0
+        && memcmp(array, expected, size) == 0;
+}
+
+/* Of the first word or page some bits are through, 07 72 being C7 F3 by the mask 3C; then all the rest. Of the mark only its first byte is. At no
+ * time is the name read, nor another; the earlier one stays. */
+static bool names_cut(uint8_t number)
+{
+    const bool words = number == F25L008A;
+    const zeradok_planned first = writes(number, 4, 1, 8), second = writes(number, 1, 1, 2), again = after_a_cut(number, first),
+                          rest = after_a_cut(number, one_write(number, 1, false));
+    return blank(number) && stands(NAMES, "4E 52 01 78") && name_plans(NAMES, "rooftop", first)
+        && cut_at(words ? "3C 3C" : "3C 3C 00 00 00 00 00 01", NAMES + 6, words ? "C7 F3" : "C7 F3 FF FF FF FF FF FE")
+        && has_no(NAMES, "rooftop") && has_name(NAMES, "x") && name_refused(8, NAMES, "y")
+        && marks_name(NAMES, "rooftop", 7, first.length + 22, again) && will_be(NAMES + 6, "07 72 6F 6F 66 74 6F 70") && carried_out(again)
+        && has_no(NAMES, "rooftop") && (number == F25L05PA || (silent("50") && silent("01 00"))) && name_plans(NAMES, "rooftop", second)
+        && cut_at("FF 00", NAMES + 4, "4E FF") && has_no(NAMES, "rooftop") && has_name(NAMES, "x") && name_refused(8, NAMES, "y")
+        && marks_name(NAMES, "rooftop", 7, second.length + 22, rest) && will_be(NAMES + 5, "52") && carried_out(rest)
+        && name_stands(NAMES, "rooftop") && name_stands(NAMES, "x");
+}
+
+/* A cut leaves the last two letters of "ANR", which are a mark, and neither the length nor the A. "Y" would end just in front of them, and the next
+ * name would then stand behind a mark already: it is an 8, as is every name but "ANR". (Words are written one after another: on an F25L008A it
+ * isn't by a plan that the bytes come there.) */
+static bool names_anr(uint8_t number)
+{
+    const zeradok_planned first = writes(number, 2, 1, 4), rest = writes(number, 1, 1, 2);
+    bool good = blank(number) && name_plans(NAMES, "ANR", first);
+    if (number == F25L05PA) good = good && cut_at("00 00 FF FF", NAMES + 4, "4E 52");
+    else good = good && stands(NAMES + 4, "4E 52");
+    return good && has_no(NAMES, "ANR") && name_refused(8, NAMES, "Y") && name_refused(8, NAMES, "A") && name_refused(8, NAMES, "ANS")
+        && name_plans(NAMES, "ANR", rest) && will_be(NAMES + 2, "03 41") && carried_out(rest) && has_no(NAMES, "ANR")
+        && name_plans(NAMES, "ANR", rest) && will_be(NAMES, "4E 52") && carried_out(rest) && name_stands(NAMES, "ANR") && has_no(NAMES, "A")
+        && name_plans(NAMES, "Y", rest) && will_be(NAMES + 8, "01 59") && carried_out(rest) && has_no(NAMES, "Y")
+        && name_plans(NAMES, "Y", rest) && will_be(NAMES + 6, "4E 52") && carried_out(rest) && name_stands(NAMES, "Y");
+}
+
+/* 12 bytes are left: for "prologue!", and not for ten letters; then none is. All around the sector is 00 */
+static bool names_full(uint8_t number)
+{
+    const zeradok_planned first = after_a_cut(number, writes(number, 5, 1, 10)), second = after_a_cut(number, writes(number, 1, 1, 2));
+    bool good = fresh(number, 0x00);
+    const size_t sector = size - SECTOR;
+    memset(array + sector, 0xFF, SECTOR);
+    memset(expected + sector, 0xFF, SECTOR);
+    good = good && has_no(sector, "x") && stand_up_to(sector, 4084) && name_refused(20, sector, "prologue 2") && has_no(sector, "prologue 2");
+    return good && name_plans(sector, "prologue!", first) && will_be(sector + 4086, "09 70 72 6F 6C 6F 67 75 65 21") && carried_out(first)
+        && has_no(sector, "prologue!") && name_refused(20, sector, "prologue 2") && name_refused(8, sector, "prologue?")
+        && name_plans(sector, "prologue!", second) && will_be(sector + 4084, "4E 52") && carried_out(second)
+        && name_stands(sector, "prologue!") && name_stands(sector, "x") && name_refused(20, sector, "y");
+}
+
+/* Scenes 0, 2 and 4 are read: EA. Their records are at bytes 0, 11 and 20 of the name sector. */
+static bool names_there_and_back(uint8_t number)
+{
+    const zeradok_planned first = writes(number, 13, 2, 28), second = writes(number, 4, 3, 22), back = one_write(number, 1, false), nothing = {0};
+    return blank(number) && five_scenes() && stands(BOOK, "EA") && move_plans(BOOK, NAMES, first)
+        && will_be(NAMES + 2, "08 70 72 6F 6C 6F 67 75 65 FF FF 06 6C 65 74 74 65 72 FF FF 07 72 6F 6F 66 74 6F 70") && carried_out(first)
+        && has_no(NAMES, "prologue") && has_no(NAMES, "letter") && has_no(NAMES, "rooftop") && backs_in(0, NAMES, THIRD, nothing, 0)
+        && move_plans(BOOK, NAMES, second) && will_be(NAMES, "4E 52") && will_be(NAMES + 11, "4E 52") && will_be(NAMES + 20, "4E 52")
+        && carried_out(second) && moves_in(0, BOOK, NAMES, nothing) && name_stands(NAMES, "prologue") && name_stands(NAMES, "letter")
+        && name_stands(NAMES, "rooftop") && has_no(NAMES, "station at night") && has_no(NAMES, "harbour")
+        && back_plans(NAMES, THIRD, back, 0) && will_be(THIRD, "EA") && carried_out(back) && backs_in(0, NAMES, THIRD, nothing, 0)
+        && backs_in(0, NAMES, BOOK, nothing, 0) && counts(3, THIRD) && is_read(THIRD, 0) && is_unread(THIRD, 1) && is_read(THIRD, 2)
+        && is_unread(THIRD, 3) && is_read(THIRD, 4) && is_unread(THIRD, 5);
+}
+
+/* Scenes 0 to 2 are read, "a", "b" and "c": four bytes a record. The cut marks may be whole in any order, and what is read is the first few names. */
+static bool names_move_cut(uint8_t number)
+{
+    const bool words = number == F25L008A;
+    const zeradok_planned p = writes(number, 3, 3, 10), again = after_a_cut(number, p), rest = words ? again : one_write(number, 1, false);
+    bool good = blank(number) && lists("01 61 01 62 01 63") && stands(BOOK, "F8") && move_plans(BOOK, NAMES, p)
+        && cut_at(words ? "0F 00" : "0F 00 00 00 FF FF 00 00 00 00", NAMES + 2, words ? "F1 FF" : "F1 FF FF FF 01 62 FF FF FF FF")
+        && has_no(NAMES, "a") && has_no(NAMES, "b") && has_no(NAMES, "c") && moves_in(p.length + 22, BOOK, NAMES, again)
+        && will_be(NAMES + 2, "01 61 FF FF 01 62 FF FF 01 63") && carried_out(again) && has_no(NAMES, "a") && has_no(NAMES, "b")
+        && has_no(NAMES, "c");
+    if (words) good = good && silent("50") && silent("01 00");
+    good = good && move_plans(BOOK, NAMES, p)
+        && cut_at(words ? "FF 00" : "FF FF 00 00 FF 00 00 00 FF FF", NAMES, words ? "4E FF" : "4E 52 01 61 4E FF 01 62 4E 52")
+        && (words ? has_no(NAMES, "a") : has_name(NAMES, "a")) && has_no(NAMES, "b") && has_no(NAMES, "c");
+    return good && moves_in(p.length + 22, BOOK, NAMES, rest) && will_be(NAMES, "4E 52 01 61 4E 52 01 62 4E 52 01 63") && carried_out(rest)
+        && moves_in(0, BOOK, NAMES, (zeradok_planned){0}) && has_name(NAMES, "a") && has_name(NAMES, "b") && has_name(NAMES, "c");
+}
+
+/* one bit at the sector's end or behind the book, a mark before its name, a name marked since the move, a scene that has no record: each an 8 */
+static bool names_unerased(uint8_t number)
+{
+    const zeradok_planned nothing = {0};
+    return blank(number) && lists("01 61") && stands(BOOK, "FE") && stands(NAMES + SECTOR - 1, "7F") && move_refused(8, BOOK, NAMES)
+        && stands(NAMES + SECTOR - 1, "FF") && stands(NAMES, "4E") && move_refused(8, BOOK, NAMES)
+        && stands(NAMES, "FF 52 01 61") && moves_in(64, BOOK, NAMES, one_write(number, 1, false))
+        && stands(NAMES, "4E 52 01 61") && moves_in(0, BOOK, NAMES, nothing)
+        && stands(NAMES + 4, "4E 52 01 7A") && move_refused(8, BOOK, NAMES) && stands(BOOK, "FF") && move_refused(8, BOOK, NAMES)
+        && stands(THIRD + USED, "FE") && back_refused(8, NAMES, THIRD) && stands(THIRD + USED, "FF") && stands(THIRD + SECTOR - 1, "7F")
+        && back_refused(8, NAMES, THIRD) && stands(THIRD + SECTOR - 1, "FF") && stands(THIRD, "FC") && back_refused(8, NAMES, THIRD)
+        && stands(THIRD, "FE") && backs_in(0, NAMES, THIRD, nothing, 1);
+}
+
+/* good, where no scene is read; the bytes behind the book aren't looked at */
+static bool names_empty_list(uint8_t number)
+{
+    const zeradok_planned nothing = {0};
+    return blank(number) && lists("") && stands(BOOK + USED, "00") && moves_in(0, BOOK, NAMES, nothing) && backs_in(0, NAMES, THIRD, nothing, 0)
+        && stands(BOOK, "FE") && move_refused(18, BOOK, NAMES) && stands(BOOK, "FF") && stands(BOOK + USED - 1, "7F") && move_refused(18, BOOK, NAMES)
+        && stands(BOOK + USED - 1, "FF") && stands(NAMES, "4E 52 01 61") && move_refused(8, BOOK, NAMES) && backs_in(0, NAMES, THIRD, nothing, 1)
+        && stands(THIRD, "FE") && back_refused(8, NAMES, THIRD);
+}
+
+/* whatever is wrong with it: a length, a byte, a name cut short, at the front and at the end; and a read scene behind the last name, for a move
+ * only */
+static bool names_bad_lists(uint8_t number)
+{
+    static const char *const bad[] = {"00", "01", "20", "21", "FF", "02 61", "01 1F", "01 7F", "01 80", "01 FF", "01 00", "00 01 61", "01 61 00",
+        "01 61 01", "01 61 02 62", "01 61 01 1F 01 62", "02 61 7F", "03 7F 61 62"};
+    const char *of_33 = "abcdefghijklmnopqrstuvwxyz0123456", *of_32 = of_33 + 1;
+    const zeradok_planned nothing = {0};
+    bool good = blank(number);
+    for (size_t i = 0; i < sizeof bad / sizeof *bad; i++)
+        good = good && lists(bad[i]) && move_refused(18, BOOK, NAMES) && back_refused(18, NAMES, THIRD);
+    good = good && lists("") && lists_name(of_33) && move_refused(18, BOOK, NAMES) && back_refused(18, NAMES, THIRD)
+        && lists("01 20 01 7E") && lists_name(of_32) && moves_in(0, BOOK, NAMES, nothing) && backs_in(0, NAMES, THIRD, nothing, 0);
+    list_length--;
+    good = good && move_refused(18, BOOK, NAMES) && back_refused(18, NAMES, THIRD);
+    return good && lists("01 61 01 62") && stands(BOOK, "FB") && move_refused(18, BOOK, NAMES) && backs_in(0, NAMES, THIRD, nothing, 0)
+        && stands(BOOK, "FC") && moves_in(64, BOOK, NAMES, writes(number, 2, 2, 6)) && stands(BOOK + USED - 1, "7F") && move_refused(18, BOOK, NAMES)
+        && stands(BOOK + USED - 1, "FF") && stands(BOOK + 1, "FE") && move_refused(18, BOOK, NAMES);
+}
+
+/* a name of two letters for so many scenes, each another one: the last of 4,096 is "oo" */
+static bool lists_many(size_t count)
+{
+    list_length = 0;
+    for (size_t i = 0; i < count; i++) {
+        const char name[] = {(char)(0x30 + i / 64), (char)(0x30 + i % 64), 0};
+        lists_name(name);
+    }
+    return true;
+}
+
+/* Only the last scene is read. 4,097 names are an 18, though one stands twice, as is a read scene without a name; else one that stands twice is a
+ * 19, in front, at the end, far apart, and read or not. "a" and "ab" aren't equal, nor are "a" and "A". */
+static bool names_many(uint8_t number)
+{
+    const zeradok_planned first = writes(number, 2, 1, 3), second = writes(number, 1, 1, 2), one = one_write(number, 1, false);
+    bool good = blank(number) && stands(BOOK + USED - 1, "7F") && lists_many(SCENES) && move_plans(BOOK, NAMES, first)
+        && will_be(NAMES + 2, "02 6F 6F") && carried_out(first) && move_plans(BOOK, NAMES, second) && will_be(NAMES, "4E 52") && carried_out(second)
+        && name_stands(NAMES, "oo") && back_plans(NAMES, THIRD, one, 0) && will_be(THIRD + USED - 1, "7F") && carried_out(one)
+        && counts(1, THIRD) && is_read(THIRD, SCENES - 1) && lists_name("oo") && move_refused(18, BOOK, THIRD) && back_refused(18, NAMES, BOOK)
+        && lists_many(SCENES) && lists_name("a") && move_refused(18, BOOK, THIRD) && back_refused(18, NAMES, BOOK)
+        && lists_many(SCENES - 1) && lists_name("00") && move_refused(19, BOOK, THIRD) && back_refused(19, NAMES, BOOK)
+        && lists_many(SCENES - 2) && lists_name("00") && move_refused(18, BOOK, THIRD) && back_refused(19, NAMES, BOOK);
+    return good && blank(number) && lists("01 61 01 61") && move_refused(19, BOOK, NAMES) && back_refused(19, NAMES, BOOK)
+        && lists("01 61 02 61 62 01 41 01 62 02 61 62") && move_refused(19, BOOK, NAMES) && back_refused(19, NAMES, BOOK)
+        && lists("01 61 02 61 62 01 41 01 62 02 62 61") && moves_in(0, BOOK, NAMES, (zeradok_planned){0})
+        && backs_in(0, NAMES, BOOK, (zeradok_planned){0}, 0);
+}
+
+/* the planner's own script for the wanted sector, then the move's: the same, byte for byte; it is run */
+static bool moves_as_planned(size_t book, size_t sector, const uint8_t *wanted)
+{
+    static uint8_t script[ZERADOK_WORST_BYTES];
+    const zeradok_planned p = zeradok_plan(chip, wp_high, array, size, sector, wanted, SECTOR, script, sizeof script);
+    memcpy(expected + sector, array + sector, SECTOR);
+    bool good = p.number == 0 && p.length > 0 && move_plans(book, sector, p) && memcmp(buffer, script, p.length) == 0;
+    memcpy(expected + sector, wanted, SECTOR);
+    return good && carried_out(p);
+}
+
+/* 116 names of 32 letters and two of 15, all read, are 4,096 bytes: taken, and back again. One letter more is a 20, unless a scene isn't read. */
+static bool names_move_full(uint8_t number)
+{
+    static uint8_t first[SECTOR], second[SECTOR];
+    char name[33];
+    size_t at = 0;
+    bool good = blank(number) && lists("") && stands(BOOK, "00 00 00 00 00 00 00 00 00 00 00 00 00 00 C0");
+    for (int i = 0; i < 118; i++) {
+        const int length = snprintf(name, sizeof name, "%0*d", i < 116 ? 32 : 15, i);
+        lists_name(name);
+        memcpy(first + at, (const uint8_t[]){0xFF, 0xFF, (uint8_t)length}, 3);
+        memcpy(second + at, (const uint8_t[]){0x4E, 0x52, (uint8_t)length}, 3);
+        memcpy(first + at + 3, name, (size_t)length);
+        memcpy(second + at + 3, name, (size_t)length);
+        at += 3 + (size_t)length;
+    }
+    const zeradok_planned back = writes(number, 8, 1, 15);
+    good = good && at == SECTOR && moves_as_planned(BOOK, NAMES, first) && has_no(NAMES, name) && moves_as_planned(BOOK, NAMES, second)
+        && moves_in(0, BOOK, NAMES, (zeradok_planned){0}) && name_stands(NAMES, name) && name_refused(20, NAMES, "x")
+        && back_plans(NAMES, THIRD, back, 0) && will_be(THIRD, "00 00 00 00 00 00 00 00 00 00 00 00 00 00 C0") && carried_out(back)
+        && counts(118, THIRD);
+    list[list_length - 16]++; /* the last name has a letter more */
+    list[list_length++] = 'a';
+    return good && move_refused(20, BOOK, 0) && stands(BOOK, "80") && moves_in(1, BOOK, 0, (zeradok_planned){.number = 10});
+}
+
+/* Records, and not different names: "x" twice and "old" are not on the list, "letter" twice is. It is told with an empty script, and not by a
+ * refusal. */
+static bool names_unlisted(uint8_t number)
+{
+    const zeradok_planned one = one_write(number, 1, false), nothing = {0};
+    return blank(number) && lists("06 6C 65 74 74 65 72 03 61 6E 72 01 79")
+        && stands(NAMES, "4E 52 01 78 4E 52 06 6C 65 74 74 65 72 4E 52 01 78 4E 52 03 6F 6C 64 4E 52 06 6C 65 74 74 65 72 4E 52 01 79")
+        && back_plans(NAMES, THIRD, one, 3) && will_be(THIRD, "FA") && carried_out(one) && backs_in(0, NAMES, THIRD, nothing, 3)
+        && is_read(THIRD, 0) && is_unread(THIRD, 1) && is_read(THIRD, 2) && counts(2, THIRD) && back_refused(15, NAMES, 1)
+        && lists("01 61") && back_refused(8, NAMES, THIRD) && backs_in(0, NAMES, BOOK, nothing, 6) && lists("")
+        && backs_in(0, NAMES, BOOK, nothing, 6)
+        && lists("01 78") && back_plans(NAMES, BOOK, one, 4);
+}
+
+/* "a" at byte 5, on an F25L008A: its length stands already, and of the first plan, a word, all bits are through when the power goes. The second plan
+ * comes next, of two words on a chip that is protected now: 22 bytes more than the cut plan had are too few. */
+static bool names_room(void)
+{
+    const zeradok_planned rest = writes(F25L008A, 1, 1, 0), second = unprotecting(writes(F25L008A, 2, 1, 0));
+    return blank(F25L008A) && stands(NAMES, "4E 52 02 78 79 FF FF 01") && name_plans(NAMES, "a", rest) && cut_at("FF FF", NAMES + 8, "61")
+        && marks_name(NAMES, "a", 1, rest.length + 22, (zeradok_planned){.number = 10}) && name_plans(NAMES, "a", second)
+        && will_be(NAMES + 5, "4E 52") && carried_out(second) && name_stands(NAMES, "a");
+}
+
 /* ---- refusals: nothing is changed */
 
 static bool refused(uint32_t number, size_t array_length, size_t frame_length, size_t output_length, size_t mask_length)
@@ -934,6 +1525,7 @@ static const struct {
     {"salvage: equal names are all kept", salvage_equal_names},
     {"salvage: 820 stretches, 3,280 bytes of list", salvage_longest_list},
     {"salvage: refusal 2, before 10", salvage_refusals},
+    {"names: the second plan in the room of a cut one", names_room},
     {"refusals 1 to 5 change nothing", refusals},
 };
 
@@ -941,7 +1533,7 @@ static const struct {
 static const struct {
     const char *name;
     bool (*holds)(uint8_t number);
-} books[] = {
+} on_each_chip[] = {
     {"book: scenes 0, 9 and 9", book_first},
     {"book: scene 4,095 in the last sector", book_last},
     {"book: every scene, by a list of 8,192", book_whole},
@@ -951,6 +1543,26 @@ static const struct {
     {"book: refusals 1 and 2, before 15", book_not_lent},
     {"book: refusal 9, and a plan that unprotects", book_protected},
     {"book: a marking cut, and marked again", book_cut},
+    {"names: rooftop by two plans, and a second name", names_first},
+    {"names: which records count", names_records},
+    {"names: equal bytes are equal names, and nothing else", names_compared},
+    {"names: refusal 18 and the edges of a name", names_bad},
+    {"names: refusal 15, sectors that aren't there", names_outside},
+    {"names: refusals in their order", names_order},
+    {"names: questions while not at rest, and refusal 7", names_not_at_rest},
+    {"names: refusal 9, and plans that unprotect", names_protected},
+    {"names: what stands behind the records", names_dirt},
+    {"names: both plans cut, and marked again", names_cut},
+    {"names: ANR cut, Y refused", names_anr},
+    {"names: the last sector filled to its last byte, and refusal 20", names_full},
+    {"names: a move of three scenes of five, and back", names_there_and_back},
+    {"names: a move cut, and moved again", names_move_cut},
+    {"names: a move into what isn't erased", names_unerased},
+    {"names: the empty list", names_empty_list},
+    {"names: refusal 18, bad lists", names_bad_lists},
+    {"names: 4,096 names, 4,097 names, and refusal 19", names_many},
+    {"names: a move of just 4,096 bytes, and refusal 20", names_move_full},
+    {"names: unlisted records", names_unlisted},
 };
 
 static unsigned passed, failed;
@@ -968,7 +1580,8 @@ static void tally(const char *name, bool holds)
 int main(void)
 {
     for (size_t i = 0; i < sizeof samples / sizeof *samples; i++) tally(samples[i].name, samples[i].holds());
-    for (size_t i = 0; i < sizeof books / sizeof *books; i++) tally(books[i].name, books[i].holds(F25L008A) && books[i].holds(F25L05PA));
+    for (size_t i = 0; i < sizeof on_each_chip / sizeof *on_each_chip; i++)
+        tally(on_each_chip[i].name, on_each_chip[i].holds(F25L008A) && on_each_chip[i].holds(F25L05PA));
     printf("C samples: %u passed, %u failed\n", passed, failed);
     return failed != 0;
 }

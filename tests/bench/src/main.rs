@@ -4,13 +4,14 @@
 //! and the model's; a limit has one figure. `bench do <row> <library|model> <times>` only does the
 //! operation, to be counted from outside; a limit is the same for both.
 
+mod naming;
 mod operation;
 
 use std::process::ExitCode;
 use std::time::{Duration, Instant};
 
 use model::Model;
-use operation::{Operation, LIMITS, OPERATIONS};
+use operation::{Operation, Prepare, LIMITS, OPERATIONS};
 use zeradok::Library;
 
 const BATCH: Duration = Duration::from_millis(15);
@@ -21,7 +22,7 @@ fn main() -> ExitCode {
     let arguments: Vec<&str> = arguments.iter().map(String::as_str).collect();
     match arguments[..] {
         ["list"] => {
-            OPERATIONS.iter().chain(&LIMITS).for_each(|(name, _)| println!("{name}"));
+            rows().for_each(|(name, _)| println!("{name}"));
             Some(())
         }
         ["time", name] => time(name),
@@ -36,10 +37,14 @@ fn usage() -> ExitCode {
     ExitCode::FAILURE
 }
 
+/// All rows, the limits last.
+fn rows() -> impl Iterator<Item = &'static (&'static str, Prepare)> {
+    OPERATIONS.iter().chain(&naming::OPERATIONS).chain(&LIMITS)
+}
+
 /// The operation of a row, ready to be done.
 fn prepared(name: &str) -> Option<Operation> {
-    let row = OPERATIONS.iter().chain(&LIMITS).find(|(known, _)| *known == name);
-    row.map(|(_, prepare)| prepare())
+    rows().find(|(known, _)| *known == name).map(|(_, prepare)| prepare())
 }
 
 fn repeat(name: &str, subject: &str, times: &str) -> Option<()> {

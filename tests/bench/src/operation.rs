@@ -5,12 +5,14 @@ use std::hint::black_box;
 use model::{Calls, Model, State, Told, LONGEST_REGION, SCENES};
 use zeradok::{Library, LONGEST_DROPPED};
 
-const SIZE_008A: usize = 0x10_0000;
-const SIZE_05PA: usize = 0x1_0000;
+use crate::naming::Naming;
+
+pub const SIZE_008A: usize = 0x10_0000;
+pub const SIZE_05PA: usize = 0x1_0000;
 /// Longer than any plan's script, and than the outputs of its frames.
-const ROOMY: usize = 27_000;
-/// Where the books start.
-const SECTOR: usize = 0x2000;
+pub const ROOMY: usize = 27_000;
+/// Where the books start, and the names.
+pub const SECTOR: usize = 0x2000;
 
 pub enum Operation {
     /// `number` is what it has to be answered with.
@@ -62,6 +64,7 @@ pub enum Operation {
         list: Vec<u8>,
         kept: u32,
     },
+    Naming(Naming),
     Copy {
         from: Vec<u8>,
         to: Vec<u8>,
@@ -71,7 +74,7 @@ pub enum Operation {
     },
 }
 
-type Prepare = fn() -> Operation;
+pub type Prepare = fn() -> Operation;
 
 pub const OPERATIONS: [(&str, Prepare); 24] = [
     ("05, status", || frame(writing(8), SIZE_008A, &[0x05, 0x00], 2)),
@@ -240,6 +243,7 @@ pub trait Subject: Calls {
     /// The number and the value; so the next.
     fn is_read(chip: Self::Chip, array: &[u8], sector: usize, scene: u32) -> (u32, u32);
     fn count(chip: Self::Chip, array: &[u8], sector: usize) -> (u32, u32);
+    fn name_is_read(chip: Self::Chip, array: &[u8], sector: usize, name: &[u8]) -> (u32, u32);
 }
 
 impl Subject for Library {
@@ -255,6 +259,10 @@ impl Subject for Library {
 
     fn count(chip: Self::Chip, array: &[u8], sector: usize) -> (u32, u32) {
         chip.book_count(array, sector)
+    }
+
+    fn name_is_read(chip: Self::Chip, array: &[u8], sector: usize, name: &[u8]) -> (u32, u32) {
+        chip.names_is_read(array, sector, name)
     }
 }
 
@@ -272,6 +280,11 @@ impl Subject for Model {
 
     fn count(chip: Self::Chip, array: &[u8], sector: usize) -> (u32, u32) {
         let Told { number, value, .. } = <Model>::book_count(chip, array, sector);
+        (number, value)
+    }
+
+    fn name_is_read(chip: Self::Chip, array: &[u8], sector: usize, name: &[u8]) -> (u32, u32) {
+        let Told { number, value, .. } = <Model>::names_is_read(chip, array, sector, name);
         (number, value)
     }
 }
@@ -336,6 +349,7 @@ impl Operation {
                     assert_eq!((salvaged.number, salvaged.kept), (0, *kept));
                 }
             }
+            Operation::Naming(naming) => (0..times).for_each(|_| naming.once::<S>()),
             Operation::Copy { from, to } => {
                 (0..times).for_each(|_| black_box(&mut to[..]).copy_from_slice(black_box(from)));
             }

@@ -45,6 +45,13 @@ impl Twins {
         &self.left[MARGIN..][..self.size]
     }
 
+    /// These bytes on both sides; they lie inside the array.
+    pub fn put(&mut self, start: usize, bytes: &[u8]) {
+        for side in [&mut self.left, &mut self.right] {
+            side[MARGIN + start..][..bytes.len()].copy_from_slice(bytes);
+        }
+    }
+
     /// The first address at which the sides differ, margins included.
     pub fn difference(&self) -> Option<isize> {
         if self.left == self.right {

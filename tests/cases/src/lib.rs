@@ -1,8 +1,9 @@
-//! Random and edge cases for any two who answer the thirteen calls, compared with each other.
+//! Random and edge cases for any two who answer the seventeen calls, compared with each other.
 
 pub mod book;
 pub mod counts;
 pub mod literal;
+pub mod names;
 pub mod plans;
 pub mod salvage;
 pub mod states;
@@ -41,7 +42,8 @@ pub const CHIPS: [u8; 2] = [F25L008A, F25L05PA];
 pub const BORDERS: [usize; 5] = [0x08_0000, 0x0C_0000, 0x0E_0000, 0x0F_0000, 0x10_0000];
 
 /// The names of the cases written out, with their answers, that fail: 01's samples, the levels of
-/// protection, bad records, surveys, the plans of the worst case, the flag book and sick sectors.
+/// protection, bad records, surveys, the plans of the worst case, the flag book, sick sectors and flags by
+/// name.
 pub fn written_out<C: Calls>() -> Vec<String> {
     [
         samples::failing::<C>(),
@@ -51,6 +53,7 @@ pub fn written_out<C: Calls>() -> Vec<String> {
         worst::failing::<C>(),
         book::failing::<C>(),
         salvage::failing::<C>(),
+        names::failing::<C>(),
     ]
     .concat()
 }

@@ -7,7 +7,7 @@ use crate::{malform, scripts, size, states, Rng, F25L008A, F25L05PA};
 
 /// A set of refusal numbers.
 #[derive(Clone, Copy, Default)]
-pub struct Planted(u16);
+pub struct Planted(u32);
 
 impl Planted {
     pub fn plant(&mut self, number: u32) {
@@ -15,7 +15,7 @@ impl Planted {
     }
 
     pub fn numbers(self) -> impl Iterator<Item = u32> {
-        (1..=15).filter(move |number| self.0 >> number & 1 == 1)
+        (1..=20).filter(move |number| self.0 >> number & 1 == 1)
     }
 }
 

@@ -4,6 +4,7 @@ use std::process::ExitCode;
 
 use cases::book::Books;
 use cases::counts::{goals, Counts};
+use cases::names::{self, Histories, Names, Trials};
 use cases::salvage::{self, Salvages, LONGEST_LIST};
 use cases::unread::{Script, Unread};
 use cases::worst::{Amounts, Planner};
@@ -22,6 +23,11 @@ const MARKS: usize = 2_000;
 /// promises are tried.
 const SECTORS: usize = 10_000;
 const PROMISED: usize = 3_000;
+/// How many cases of flags by name there are; and on each chip how many trials and histories of
+/// them, on which the promises are tried.
+const NAMES: usize = 20_000;
+const TRIALS: usize = 2_000;
+const HISTORIES: usize = 400;
 
 // The binding has the greatest of both chips' limits, and the length of the longest list.
 const _: () = {
@@ -60,7 +66,10 @@ fn main() -> ExitCode {
     let limited = CHIPS.map(|chip| keeps_limits(chip, seed, &mut counts)) == [true; 2];
     let promised = CHIPS.map(|chip| keeps_promises(chip, seed, &mut counts)) == [true; 2];
     let salvaged = salvages(seed, &mut counts) && keeps_names(seed, &mut counts);
-    if all_met(&counts) && unread && limited && promised && salvaged && failing.is_empty() {
+    let named = names_agree(seed, &mut counts)
+        && CHIPS.map(|chip| keeps_flags(chip, seed, &mut counts)) == [true; 2];
+    let kept = unread && limited && promised && salvaged && named;
+    if all_met(&counts) && kept && failing.is_empty() {
         ExitCode::SUCCESS
     } else {
         ExitCode::FAILURE
@@ -141,6 +150,44 @@ fn keeps_names(seed: u64, counts: &mut Counts) -> bool {
             return false;
         }
         counts.note_salvaged(&found.tested);
+    }
+    true
+}
+
+/// Whether the library answers about flags by name as the model does; prints the first case in which
+/// it doesn't.
+fn names_agree(seed: u64, counts: &mut Counts) -> bool {
+    let library = Names::of::<Library>();
+    match names::explore(&library, seed, NAMES, |seen| counts.note_names(seen)) {
+        Ok(()) => true,
+        Err(found) => {
+            println!("seed {seed}, case {} of flags by name, call {}", found.index, found.call);
+            println!("{}\n\n{}", found.what, found.text);
+            false
+        }
+    }
+}
+
+/// Whether the library's marks, moves and ways back keep what A7 promises; prints the first trial or
+/// history that doesn't.
+fn keeps_flags(chip: u8, seed: u64, counts: &mut Counts) -> bool {
+    let mut trials = Trials::new::<Library>(Names::of::<Library>(), chip, seed);
+    for _ in 0..TRIALS {
+        let found = trials.trial();
+        counts.note_named(chip, &found.tested);
+        if !found.broken.is_empty() {
+            println!("chip {chip}, broken: {:?}\n{}", found.broken, trials.text());
+            return false;
+        }
+    }
+    let mut histories = Histories::new::<Library>(Names::of::<Library>(), chip, seed);
+    for _ in 0..HISTORIES {
+        let found = histories.history().found;
+        counts.note_named(chip, &found.tested);
+        if !found.broken.is_empty() {
+            println!("chip {chip}, broken: {:?}\n{}", found.broken, histories.text());
+            return false;
+        }
     }
     true
 }

@@ -59,6 +59,18 @@ pub struct Told {
     pub value: u32,
 }
 
+/// A book planned from names; `unlisted` records have a name that isn't on the list, 0 with a
+/// refusal.
+#[derive(Clone, Copy, Debug, PartialEq, Eq)]
+pub struct Returned {
+    pub number: u32,
+    pub state: State,
+    pub length: u32,
+    pub frames: u32,
+    pub microseconds: u32,
+    pub unlisted: u32,
+}
+
 /// A sector salvaged: the bytes of the list of dropped stretches and of the kept records; both 0
 /// with a refusal.
 #[derive(Clone, Copy, Debug, PartialEq, Eq)]
@@ -87,7 +99,7 @@ pub mod kind {
     pub const END: u32 = 3;
 }
 
-/// Somebody who answers the thirteen calls: this model, a wrong copy of it, or the library.
+/// Somebody who answers the seventeen calls: this model, a wrong copy of it, or the library.
 pub trait Calls {
     fn new_chip(chip: u8) -> Answer;
     fn power_up(state: State) -> Answer;
@@ -129,6 +141,33 @@ pub trait Calls {
         buffer: &mut [u8],
     ) -> Planned;
     fn salvage(sector: &[u8], kept: &mut [u8], dropped: &mut [u8]) -> Salvaged;
+    fn names_is_read(state: State, array: &[u8], sector: usize, name: &[u8]) -> Told;
+    fn names_mark(
+        state: State,
+        wp_high: bool,
+        array: &[u8],
+        sector: usize,
+        name: &[u8],
+        buffer: &mut [u8],
+    ) -> Planned;
+    fn names_move(
+        state: State,
+        wp_high: bool,
+        array: &[u8],
+        book: usize,
+        sector: usize,
+        list: &[u8],
+        buffer: &mut [u8],
+    ) -> Planned;
+    fn names_back(
+        state: State,
+        wp_high: bool,
+        array: &[u8],
+        sector: usize,
+        book: usize,
+        list: &[u8],
+        buffer: &mut [u8],
+    ) -> Returned;
 }
 
 impl Answer {

@@ -1,7 +1,8 @@
 //! A second model, in plain Rust, written from the two data sheets and documents 01 and 02 alone. It is what the library is compared with, and the baseline its speed is measured by.
 //!
-//! `Model` is the right model; `Model<{ Fault::… as u8 }>` is a copy that is wrong in one way, and so
-//! is `salvage::<{ SalvageFault::… as u8 }>`, a copy of that one call.
+//! `Model` is the right model; `Model<{ Fault::… as u8 }>` is a copy that is wrong in one way. So is
+//! `salvage::<{ SalvageFault::… as u8 }>`, a copy of that one call, and so are `names_mark` and the
+//! three others about flags by name, `names_…(NamesFault::…, ..)`.
 #![no_std]
 
 mod book;
@@ -9,10 +10,16 @@ mod calls;
 mod chip;
 mod effect;
 mod fault;
+mod flag_checks;
+mod flags;
 mod frame;
+mod name_list;
+mod name_sector;
 mod names;
+mod names_fault;
 mod pages;
 mod plan;
+mod positions;
 mod reader;
 mod records;
 mod reply;
@@ -22,11 +29,16 @@ mod state;
 mod words;
 
 pub use book::{BOOK, SCENES};
-pub use calls::{kind, Answer, Calls, Planned, Ran, Record, Salvaged, State, Surveyed, Told};
+pub use calls::{
+    kind, Answer, Calls, Planned, Ran, Record, Returned, Salvaged, State, Surveyed, Told,
+};
 pub use chip::{Chip, Kind, SECTOR};
 pub use fault::{Fault, SalvageFault};
+pub use flags::{names_back, names_is_read, names_mark, names_move};
 pub use frame::{Reason, LONGEST_FRAME};
+pub use name_list::MOST_NAMES;
 pub use names::names_of;
+pub use names_fault::NamesFault;
 pub use plan::LONGEST_REGION;
 pub use reader::LONGEST_SCRIPT;
 pub use salvage::salvage;
@@ -36,7 +48,7 @@ use state::refusal;
 
 const RIGHT: u8 = Fault::None as u8;
 
-/// The thirteen calls as this model answers them.
+/// The seventeen calls as this model answers them.
 pub struct Model<const FAULT: u8 = RIGHT>;
 
 impl<const FAULT: u8> Calls for Model<FAULT> {
@@ -149,6 +161,45 @@ impl<const FAULT: u8> Calls for Model<FAULT> {
 
     fn salvage(sector: &[u8], kept: &mut [u8], dropped: &mut [u8]) -> Salvaged {
         salvage::<{ SalvageFault::None as u8 }>(sector, kept, dropped)
+    }
+
+    fn names_is_read(state: State, array: &[u8], sector: usize, name: &[u8]) -> Told {
+        names_is_read(NamesFault::None, state, array, sector, name)
+    }
+
+    fn names_mark(
+        state: State,
+        wp_high: bool,
+        array: &[u8],
+        sector: usize,
+        name: &[u8],
+        buffer: &mut [u8],
+    ) -> Planned {
+        names_mark(NamesFault::None, state, wp_high, array, sector, name, buffer)
+    }
+
+    fn names_move(
+        state: State,
+        wp_high: bool,
+        array: &[u8],
+        book: usize,
+        sector: usize,
+        list: &[u8],
+        buffer: &mut [u8],
+    ) -> Planned {
+        names_move(NamesFault::None, state, wp_high, array, [book, sector], list, buffer)
+    }
+
+    fn names_back(
+        state: State,
+        wp_high: bool,
+        array: &[u8],
+        sector: usize,
+        book: usize,
+        list: &[u8],
+        buffer: &mut [u8],
+    ) -> Returned {
+        names_back(NamesFault::None, state, wp_high, array, [sector, book], list, buffer)
     }
 }
 

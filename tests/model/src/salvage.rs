@@ -3,7 +3,7 @@
 
 use crate::chip::SECTOR;
 use crate::fault::SalvageFault as Fault;
-use crate::names::{marked, names_of, record};
+use crate::names::{names_of, Form};
 use crate::state::refusal;
 use crate::Salvaged;
 
@@ -62,6 +62,31 @@ fn is_short<const FAULT: u8>(room: usize, length: usize) -> bool {
     }
 }
 
+/// What a record looks like; only to a wrong copy otherwise than it should.
+const fn form<const FAULT: u8>() -> Form {
+    let mut form = Form::RIGHT;
+    form.whole_mark = !Fault::HalfMarkAsked.within(FAULT);
+    form.past_end = Fault::RecordPastEndKept.within(FAULT);
+    if Fault::Length0Taken.within(FAULT) {
+        form.shortest = 0;
+    } else if Fault::Length1Refused.within(FAULT) {
+        form.shortest = 2;
+    } else if Fault::Length32Refused.within(FAULT) {
+        form.longest = 31;
+    } else if Fault::Length33Taken.within(FAULT) {
+        form.longest = 33;
+    } else if Fault::Byte1fTaken.within(FAULT) {
+        form.first_byte = 0x1F;
+    } else if Fault::SpaceRefused.within(FAULT) {
+        form.first_byte = 0x21;
+    } else if Fault::Byte7eRefused.within(FAULT) {
+        form.last_byte = 0x7D;
+    } else if Fault::Byte7fTaken.within(FAULT) {
+        form.last_byte = 0x7F;
+    }
+    form
+}
+
 /// What becomes of each place; only in a wrong copy the sector has another length.
 fn fates<const FAULT: u8>(sector: &[u8]) -> Fates {
     let used = used::<FAULT>(sector.get(..SECTOR).unwrap_or(sector));
@@ -70,7 +95,7 @@ fn fates<const FAULT: u8>(sector: &[u8]) -> Fates {
     let mut at = 0;
     while at < used.len() {
         let (front, rest) = used.split_at(at);
-        at += match record::<FAULT>(rest) {
+        at += match form::<FAULT>().record(rest) {
             Some(found) if Fault::EqualNameDropped.within(FAULT) && stands(found, front) => {
                 found.len()
             }
@@ -113,7 +138,7 @@ fn stepped_over<const FAULT: u8>(rest: &[u8]) -> usize {
     if Fault::FirstBadPlaceEnds.within(FAULT) {
         return rest.len();
     }
-    match marked::<FAULT>(rest) {
+    match form::<FAULT>().marked(rest) {
         Some((length, _)) if Fault::DamagedSteppedOver.within(FAULT) => 3 + length,
         _ => 1,
     }

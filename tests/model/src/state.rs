@@ -4,7 +4,8 @@ use crate::chip::{Chip, SECTOR, WORD_TIME};
 use crate::fault::Fault;
 use crate::State;
 
-/// Refusal numbers (01, "Refusal numbers, in the order checked"; from 12 on 02, A1, and 15 A2).
+/// Refusal numbers (01, "Refusal numbers, in the order checked"; from 12 on 02: A1, 15 A2,
+/// from 18 on and the second 6 A7).
 pub mod refusal {
     pub const STATE: u32 = 1;
     pub const ARRAY_LENGTH: u32 = 2;
@@ -12,6 +13,7 @@ pub mod refusal {
     pub const OUTPUT_LENGTH: u32 = 4;
     pub const MASK_LENGTH: u32 = 5;
     pub const REGION: u32 = 6;
+    pub const SAME_SECTOR: u32 = 6;
     pub const NOT_AT_REST: u32 = 7;
     pub const NEEDS_ERASE: u32 = 8;
     pub const LOCKED: u32 = 9;
@@ -21,6 +23,9 @@ pub mod refusal {
     pub const RECORD_LENGTH: u32 = 13;
     pub const CUT_SHORT: u32 = 14;
     pub const WRONG_BOOK: u32 = 15;
+    pub const BAD_NAME: u32 = 18;
+    pub const NAME_TWICE: u32 = 19;
+    pub const FULL: u32 = 20;
 }
 
 impl State {

@@ -1,21 +1,26 @@
 //! Power cuts everywhere in plans that the library makes and runs: `torture [seed] [plans]`.
 
+mod history;
+mod naming;
 mod setting;
 mod tally;
 mod trial;
 
 use std::process::ExitCode;
 
+use cases::names::Names;
 use cases::Rng;
-use model::{Calls, Fault, Model};
+use model::{Calls, Fault, Model, NamesFault};
 use setting::{Kind, Setting};
 use tally::Tally;
 use trial::Trial;
 use zeradok::Library;
 
-const KINDS: [Kind; 2] = [Kind::Update, Kind::Mark];
+const KINDS: [Kind; 5] = [Kind::Update, Kind::Mark, Kind::NameMark, Kind::NameMove, Kind::NameBack];
 const SEED: u64 = 1;
 const PLANS: u64 = 5_000;
+/// Plans of flags by name are fewer, one in so many: each cut is followed by three calls.
+const FEWER: u64 = 12;
 /// How much more room the second plan gets (00, demand 3).
 const MORE_ROOM: usize = 22;
 
@@ -27,8 +32,9 @@ fn main() -> ExitCode {
         eprintln!("usage: torture [seed] [plans]");
         return ExitCode::FAILURE;
     };
-    let endures = KINDS.map(|kind| endures(kind, seed, plans)) == [true; 2];
-    if endures && KINDS.map(|kind| is_sharp(kind, seed, plans)) == [true; 2] {
+    let endures = KINDS.map(|kind| endures(kind, seed, plans)) == [true; KINDS.len()];
+    let sharp = endures && KINDS.map(|kind| is_sharp(kind, seed, plans)) == [true; KINDS.len()];
+    if sharp && history::are_endured(seed, plans) {
         ExitCode::SUCCESS
     } else {
         ExitCode::FAILURE
@@ -38,7 +44,8 @@ fn main() -> ExitCode {
 /// Whether the library's plans come through all cuts, and these are enough of each sort.
 fn endures(kind: Kind, seed: u64, plans: u64) -> bool {
     let mut tally = Tally::default();
-    if let Err(what) = torture::<Library>(kind, seed, plans, MORE_ROOM, &mut tally) {
+    let names = Names::of::<Library>();
+    if let Err(what) = torture::<Library>(kind, &names, seed, plans, MORE_ROOM, &mut tally) {
         println!("{kind:?}, seed {seed}, {what}");
         return false;
     }
@@ -50,19 +57,12 @@ fn endures(kind: Kind, seed: u64, plans: u64) -> bool {
     rare.is_empty()
 }
 
-/// Whether less room, and a copy of the model that stores bytes or counts a scene's bit from the
-/// top, come to grief.
+/// Whether less room, and a wrong copy of the model, come to grief.
 fn is_sharp(kind: Kind, seed: u64, plans: u64) -> bool {
-    type Storing = Model<{ Fault::ByteStored as u8 }>;
-    type FromTop = Model<{ Fault::SceneBitFromTop as u8 }>;
     let tally = &mut Tally::default();
-    let less_room = torture::<Library>(kind, seed, plans, MORE_ROOM - 1, tally);
-    let (name, wrong) = match kind {
-        Kind::Update => ("bytes stored", torture::<Storing>(kind, seed, plans, MORE_ROOM, tally)),
-        Kind::Mark => {
-            ("bits from the top", torture::<FromTop>(kind, seed, plans, MORE_ROOM, tally))
-        }
-    };
+    let right = Names::of::<Library>();
+    let less_room = torture::<Library>(kind, &right, seed, plans, MORE_ROOM - 1, tally);
+    let (name, wrong) = wrong(kind, seed, plans);
     for (name, result) in [("with 21 bytes more", &less_room), (name, &wrong)] {
         match result {
             Ok(()) => println!("NOT TOLD APART: {kind:?} {name}"),
@@ -72,6 +72,31 @@ fn is_sharp(kind: Kind, seed: u64, plans: u64) -> bool {
     less_room.is_err_and(|what| what.contains("refusal 10")) && wrong.is_err()
 }
 
+/// What a copy of the model comes to that stores bytes, counts a scene's bit from the top, writes
+/// marks and names by one plan, or sets scenes read that no record is of.
+fn wrong(kind: Kind, seed: u64, plans: u64) -> (&'static str, Result<(), String>) {
+    type Storing = Model<{ Fault::ByteStored as u8 }>;
+    type FromTop = Model<{ Fault::SceneBitFromTop as u8 }>;
+    let tally = &mut Tally::default();
+    let right = Names::of::<Library>();
+    let one_plan = Names::wrong(NamesFault::MarksInFirstPlan);
+    let others = Names::wrong(NamesFault::OthersSetRead);
+    match kind {
+        Kind::Update => {
+            ("bytes stored", torture::<Storing>(kind, &right, seed, plans, MORE_ROOM, tally))
+        }
+        Kind::Mark => {
+            ("bits from the top", torture::<FromTop>(kind, &right, seed, plans, MORE_ROOM, tally))
+        }
+        Kind::NameMark | Kind::NameMove => {
+            ("by one plan", torture::<Library>(kind, &one_plan, seed, plans, MORE_ROOM, tally))
+        }
+        Kind::NameBack => {
+            ("others set read", torture::<Library>(kind, &others, seed, plans, MORE_ROOM, tally))
+        }
+    }
+}
+
 fn first_line(text: &str) -> &str {
     text.lines().next().unwrap_or(text)
 }
@@ -79,19 +104,29 @@ fn first_line(text: &str) -> &str {
 /// Runs the plans and cuts them; what went wrong, if anything did.
 fn torture<C: Calls>(
     kind: Kind,
+    names: &Names,
     seed: u64,
     plans: u64,
     more_room: usize,
     tally: &mut Tally,
 ) -> Result<(), String> {
     let mut rng = Rng::new(seed);
+    let plans = match kind {
+        Kind::Update | Kind::Mark => plans,
+        _ => plans.div_ceil(FEWER),
+    };
     for chip in cases::CHIPS {
         let mut before = rng.bytes(cases::size(chip));
         let mut array = before.clone();
         for number in 0..plans {
             let setting = Setting::new(&mut rng, kind, chip, number, &mut before);
-            array[setting.region()].copy_from_slice(&setting.old);
-            Trial::<C>::new(&setting, &mut array, &before, more_room)
+            for (start, bytes) in
+                [(setting.start, &setting.old[..])].into_iter().chain(setting.source())
+            {
+                array[start..][..bytes.len()].copy_from_slice(bytes);
+                before[start..][..bytes.len()].copy_from_slice(bytes);
+            }
+            Trial::<C>::new(&setting, &mut array, &before, more_room, names)
                 .go(&mut rng, tally)
                 .map_err(|what| format!("plan {number}: {what}\n{setting}"))?;
             // Only the region has moved, and it is as wanted.

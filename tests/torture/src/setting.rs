@@ -7,12 +7,28 @@ use cases::literal::{bytes_text, state_text};
 use cases::{book, first_protected, plans, states, Rng};
 use model::{State, BOOK, LONGEST_REGION};
 
+use crate::naming::Naming;
+
 /// Which call plans.
 #[derive(Clone, Copy, Debug, PartialEq, Eq)]
 pub enum Kind {
     Update,
     /// The marking of scenes in a book (02, A2).
     Mark,
+    /// The marking of a name (02, A7).
+    NameMark,
+    /// From a book to names.
+    NameMove,
+    /// And back.
+    NameBack,
+}
+
+/// What is asked for.
+pub enum Ask {
+    Update,
+    /// The list that is marked in a book.
+    Scenes(Vec<u32>),
+    Naming(Naming),
 }
 
 pub struct Setting {
@@ -20,9 +36,9 @@ pub struct Setting {
     pub wp_high: bool,
     pub start: usize,
     pub old: Vec<u8>,
+    /// What is wanted of these first.
     pub wanted: Vec<u8>,
-    /// The list that is marked, if the region is a book.
-    pub scenes: Option<Vec<u32>>,
+    pub ask: Ask,
 }
 
 impl Setting {
@@ -32,6 +48,7 @@ impl Setting {
         let mut setting = match kind {
             Kind::Update => Self::update(rng, chip, number, array),
             Kind::Mark => Self::mark(rng, chip, number, array),
+            _ => Self::naming(rng, kind, chip, number),
         };
         if setting.needs_step_1() && !setting.wp_high {
             setting.state.bpl = false;
@@ -50,7 +67,7 @@ impl Setting {
         let old = old(rng, &mut array[start..][..length]);
         let wanted = plans::wanted(rng, start, &old);
         let (state, wp_high) = (states::at_rest(rng, chip), rng.coin());
-        Self { state, wp_high, start, old, wanted, scenes: None }
+        Self { state, wp_high, start, old, wanted, ask: Ask::Update }
     }
 
     /// Mostly short lists, now and then one of any sort.
@@ -63,7 +80,34 @@ impl Setting {
         };
         let wanted = book::marked(&old, &scenes);
         let (state, wp_high) = (states::at_rest(rng, chip), rng.coin());
-        Self { state, wp_high, start, old, wanted, scenes: Some(scenes) }
+        Self { state, wp_high, start, old, wanted, ask: Ask::Scenes(scenes) }
+    }
+
+    fn naming(rng: &mut Rng, kind: Kind, chip: u8, number: u64) -> Self {
+        let (naming, old) = match kind {
+            Kind::NameMove => Naming::moving(rng, chip, number),
+            Kind::NameBack => Naming::back(rng, chip, number),
+            _ => Naming::mark(rng, chip, number),
+        };
+        let (state, wp_high) = (states::at_rest(rng, chip), rng.coin());
+        let (start, wanted) = (naming.target, naming.wanted(&old));
+        Self { state, wp_high, start, old, wanted, ask: Ask::Naming(naming) }
+    }
+
+    /// What a call wants of the region that holds these bytes now.
+    pub fn wanted_of(&self, now: &[u8]) -> Vec<u8> {
+        match &self.ask {
+            Ask::Naming(naming) => naming.wanted(now),
+            _ => self.wanted.clone(),
+        }
+    }
+
+    /// Another sector that is read, and what it holds.
+    pub fn source(&self) -> Option<(usize, &[u8])> {
+        match &self.ask {
+            Ask::Naming(naming) => naming.source(),
+            _ => None,
+        }
     }
 
     pub fn region(&self) -> Range<usize> {
@@ -94,9 +138,10 @@ impl fmt::Display for Setting {
         writeln!(to, "let wp_high = {};", self.wp_high)?;
         writeln!(to, "let start = {:#X};", self.start)?;
         writeln!(to, "let old = {};", bytes_text(&self.old))?;
-        match &self.scenes {
-            Some(scenes) => write!(to, "let scenes: [u32; {}] = {scenes:?};", scenes.len()),
-            None => write!(to, "let wanted = {};", bytes_text(&self.wanted)),
+        match &self.ask {
+            Ask::Update => write!(to, "let wanted = {};", bytes_text(&self.wanted)),
+            Ask::Scenes(scenes) => write!(to, "let scenes: [u32; {}] = {scenes:?};", scenes.len()),
+            Ask::Naming(naming) => write!(to, "{naming}"),
         }
     }
 }

@@ -5,7 +5,7 @@ use std::fmt;
 
 use cases::CHIPS;
 
-use crate::setting::{Kind, Setting};
+use crate::setting::{Ask, Kind, Setting};
 
 #[derive(Clone, Copy, Debug, PartialEq, Eq, PartialOrd, Ord)]
 enum Met {
@@ -63,6 +63,11 @@ enum Sort {
     NothingNew,
     /// A scene is new, and one in its byte neither read nor listed.
     UnreadBeside,
+    /// Lengths and names go in, or marks do.
+    FirstPlan,
+    SecondPlan,
+    /// Some of it stands there already.
+    Begun,
 }
 
 impl Sort {
@@ -85,6 +90,17 @@ impl Sort {
                 Self::NothingNew,
                 Self::UnreadBeside,
             ],
+            Kind::NameMark | Kind::NameMove => &[
+                Self::BeforeFirst,
+                Self::AfterLast,
+                Self::InFrameThatProgramsNothing,
+                Self::FirstPlan,
+                Self::SecondPlan,
+                Self::Begun,
+            ],
+            Kind::NameBack => {
+                &[Self::BeforeFirst, Self::AfterLast, Self::InFrameThatProgramsNothing, Self::Begun]
+            }
         }
     }
 }
@@ -115,8 +131,16 @@ impl Tally {
         if setting.region().len() >= 1_000 {
             self.sort(setting, Sort::LongPlan);
         }
-        if let Some(scenes) = &setting.scenes {
-            self.list(setting, scenes, records);
+        match &setting.ask {
+            Ask::Update => {}
+            Ask::Scenes(scenes) => self.list(setting, scenes, records),
+            Ask::Naming(naming) => {
+                let first = naming.is_first(&setting.old);
+                self.sort(setting, if first { Sort::FirstPlan } else { Sort::SecondPlan });
+                if naming.is_begun(&setting.old) {
+                    self.sort(setting, Sort::Begun);
+                }
+            }
         }
     }
 

@@ -3,10 +3,11 @@
 use std::marker::PhantomData;
 
 use cases::literal::bytes_text;
+use cases::names::Names;
 use cases::{book, Rng};
 use model::{kind, Calls, Planned, State};
 
-use crate::setting::Setting;
+use crate::setting::{Ask, Setting};
 use crate::tally::{Tally, PARTS};
 
 /// Longer than any plan's script.
@@ -18,12 +19,16 @@ const RECORDS_CUT: usize = 100;
 const AROUND: usize = 300;
 /// So many scenes of a list are asked for after each cut and each run.
 const SCENES_ASKED: usize = 4;
+/// Two plans, and the call that has nothing left to do.
+const MOST_CALLS: usize = 3;
 
 pub struct Trial<'a, C> {
     setting: &'a Setting,
     array: &'a mut [u8],
     before: &'a [u8],
     more_room: usize,
+    /// Who answers about flags by name.
+    names: &'a Names,
     calls: PhantomData<C>,
 }
 
@@ -52,8 +57,9 @@ impl<'a, C: Calls> Trial<'a, C> {
         array: &'a mut [u8],
         before: &'a [u8],
         more_room: usize,
+        names: &'a Names,
     ) -> Self {
-        Self { setting, array, before, more_room, calls: PhantomData }
+        Self { setting, array, before, more_room, names, calls: PhantomData }
     }
 
     /// Leaves the region as wanted.
@@ -63,7 +69,7 @@ impl<'a, C: Calls> Trial<'a, C> {
         self.check_room(&script)?;
         let records = records::<C>(&script)?;
         tally.plan(self.setting, records.len());
-        self.finish(state, &first, &script)?;
+        self.finish(state, &first, &script, &self.setting.wanted)?;
         self.restore(&self.setting.old.clone());
 
         let step = match records.len() {
@@ -167,13 +173,15 @@ impl<'a, C: Calls> Trial<'a, C> {
         Ok(())
     }
 
-    /// After a cut: every bit is old or wanted, and a second plan is accepted and finishes.
+    /// After a cut: every bit is old or wanted, and a second plan is accepted and finishes; where a
+    /// call plans step by step, so do the further ones.
     fn again(
         &mut self,
         state: State,
         first_length: usize,
         tally: &mut Tally,
     ) -> Result<(), String> {
+        self.check_names()?;
         let Setting { old, wanted, .. } = self.setting;
         let now = &self.array[self.setting.region()];
         for ((now, old), wanted) in now.iter().zip(old).zip(wanted) {
@@ -182,15 +190,33 @@ impl<'a, C: Calls> Trial<'a, C> {
             }
         }
         self.check_around("after a cut")?;
-        self.check_book(state)?;
-        let room = first_length + self.more_room;
-        let (planned, script) = self.plan(state, room)?;
-        tally.again(script.len(), room);
-        self.finish(state, &planned, &script)
+        self.check_told(state)?;
+        let mut state = state;
+        for _ in 0..MOST_CALLS {
+            let wanted = self.setting.wanted_of(&self.array[self.setting.region()]);
+            let same = wanted == self.setting.wanted;
+            // Another plan than the one that was cut may be longer.
+            let room = if same { first_length + self.more_room } else { ROOMY };
+            let (planned, script) = self.plan(state, room)?;
+            if same {
+                tally.again(script.len(), room);
+            }
+            state = self.finish(state, &planned, &script, &wanted)?;
+            if script.is_empty() || !matches!(self.setting.ask, Ask::Naming(_)) {
+                return Ok(());
+            }
+        }
+        Err("called again it has always something left to do".into())
     }
 
-    /// Runs a plan uncut: the region is then as wanted, all else as it was.
-    fn finish(&mut self, state: State, planned: &Planned, script: &[u8]) -> Result<(), String> {
+    /// Runs a plan uncut: the region is then as wanted, all else as it was. The state after it.
+    fn finish(
+        &mut self,
+        state: State,
+        planned: &Planned,
+        script: &[u8],
+        wanted: &[u8],
+    ) -> Result<State, String> {
         let mut output = vec![0; output_length::<C>(script)?];
         let wp_high = self.setting.wp_high;
         let ran = C::run(state, wp_high, self.array, script, &mut output);
@@ -206,19 +232,25 @@ impl<'a, C: Calls> Trial<'a, C> {
         if planned.state != state || ran.state != rested {
             return Err(format!("state after the plan or its run: {:?}", ran.state));
         }
-        if self.array[self.setting.region()] != self.setting.wanted {
+        if self.array[self.setting.region()] != *wanted {
             return Err("the region isn't as wanted after the run".into());
         }
         self.check_around("after a run")?;
-        self.check_book(state)
+        self.check_told(state)?;
+        Ok(rested)
     }
 
     fn plan(&mut self, state: State, room: usize) -> Result<(Planned, Vec<u8>), String> {
-        let Setting { wp_high, start, wanted, scenes, .. } = self.setting;
+        let Setting { wp_high, start, wanted, ask, .. } = self.setting;
         let mut buffer = vec![0; room];
-        let planned = match scenes {
-            Some(scenes) => C::book_mark(state, *wp_high, self.array, *start, scenes, &mut buffer),
-            None => C::plan(state, *wp_high, self.array, *start, wanted, &mut buffer),
+        let planned = match ask {
+            Ask::Update => C::plan(state, *wp_high, self.array, *start, wanted, &mut buffer),
+            Ask::Scenes(scenes) => {
+                C::book_mark(state, *wp_high, self.array, *start, scenes, &mut buffer)
+            }
+            Ask::Naming(naming) => {
+                naming.plan(self.names, state, *wp_high, self.array, &mut buffer)
+            }
         };
         accepted(planned.number, "the plan")?;
         buffer.truncate(planned.length as usize);
@@ -253,10 +285,30 @@ impl<'a, C: Calls> Trial<'a, C> {
         self.array[self.setting.region()].copy_from_slice(region);
     }
 
+    /// What is told of a book or of names is what stands there.
+    fn check_told(&self, state: State) -> Result<(), String> {
+        let now = &self.array[self.setting.region()];
+        match &self.setting.ask {
+            Ask::Update => Ok(()),
+            Ask::Scenes(scenes) => self.check_book(state, scenes),
+            Ask::Naming(naming) if naming.is_told(self.names, state, self.array, now) => Ok(()),
+            Ask::Naming(_) => Err("what is told of names isn't what stands there".into()),
+        }
+    }
+
+    /// After a cut no name is made up, and none lost.
+    fn check_names(&self) -> Result<(), String> {
+        let Setting { old, ask: Ask::Naming(naming), .. } = self.setting else { return Ok(()) };
+        match naming.may_leave(old, &self.array[self.setting.region()]) {
+            true => Ok(()),
+            false => Err("a name made up or lost, or a scene, after a cut".into()),
+        }
+    }
+
     /// Of a book it is told what its bytes say: how many scenes are read, and whether some of those
     /// listed and their neighbours are.
-    fn check_book(&self, state: State) -> Result<(), String> {
-        let Setting { start, scenes: Some(scenes), .. } = self.setting else { return Ok(()) };
+    fn check_book(&self, state: State, scenes: &[u32]) -> Result<(), String> {
+        let Setting { start, .. } = self.setting;
         let bytes = &self.array[self.setting.region()];
         let read = bytes.iter().map(|byte| byte.count_zeros()).sum();
         let count = C::book_count(state, self.array, *start);

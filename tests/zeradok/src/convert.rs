@@ -84,6 +84,19 @@ impl From<binding::Told> for model::Told {
     }
 }
 
+impl From<binding::Returned> for model::Returned {
+    fn from(returned: binding::Returned) -> Self {
+        Self {
+            number: returned.number,
+            state: returned.state.into(),
+            length: returned.length,
+            frames: returned.frames,
+            microseconds: returned.microseconds,
+            unlisted: returned.unlisted,
+        }
+    }
+}
+
 impl From<binding::Salvaged> for model::Salvaged {
     fn from(salvaged: binding::Salvaged) -> Self {
         Self { number: salvaged.number, length: salvaged.length, kept: salvaged.kept }

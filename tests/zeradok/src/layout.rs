@@ -3,7 +3,7 @@
 
 use std::mem::{align_of, offset_of, size_of};
 
-use crate::binding::{Answer, Planned, Ran, Record, Salvaged, State, Surveyed, Told};
+use crate::binding::{Answer, Planned, Ran, Record, Returned, Salvaged, State, Surveyed, Told};
 use crate::binding::{LONGEST_DROPPED, WORST_BYTES, WORST_FRAMES, WORST_MICROSECONDS};
 
 /// Fails to compile unless the struct has this size and alignment and its fields these offsets.
@@ -23,6 +23,7 @@ layout!(Ran: 40, 8; number 0, state 4, frames 20, microseconds 24, offset 32);
 layout!(Surveyed: 32, 8; number 0, frames 4, microseconds 8, offset 16, output 24);
 layout!(Planned: 32, 4; number 0, state 4, length 20, frames 24, microseconds 28);
 layout!(Told: 24, 4; number 0, state 4, value 20);
+layout!(Returned: 36, 4; number 0, state 4, length 20, frames 24, microseconds 28, unlisted 32);
 layout!(Salvaged: 12, 4; number 0, length 4, kept 8);
 layout!(Record: 40, 8; number 0, kind 4, start 8, length 16, microseconds 24, next 32);
 

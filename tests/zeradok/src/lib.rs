@@ -7,7 +7,7 @@ mod convert;
 mod layout;
 
 pub use binding::{LONGEST_DROPPED, WORST_BYTES, WORST_FRAMES, WORST_MICROSECONDS};
-use model::{Answer, Calls, Planned, Ran, Record, Salvaged, State, Surveyed, Told};
+use model::{Answer, Calls, Planned, Ran, Record, Returned, Salvaged, State, Surveyed, Told};
 
 /// The verified library.
 pub struct Library;
@@ -49,6 +49,12 @@ impl Chip {
     /// Number and value of the answer.
     pub fn book_count(self, array: &[u8], sector: usize) -> (u32, u32) {
         let told = binding::book_count(self.0, array, sector);
+        (told.number, told.value)
+    }
+
+    /// Number and value of the answer.
+    pub fn names_is_read(self, array: &[u8], sector: usize, name: &[u8]) -> (u32, u32) {
+        let told = binding::names_is_read(self.0, array, sector, name);
         (told.number, told.value)
     }
 }
@@ -137,5 +143,44 @@ impl Calls for Library {
 
     fn salvage(sector: &[u8], kept: &mut [u8], dropped: &mut [u8]) -> Salvaged {
         binding::salvage(sector, kept, dropped).into()
+    }
+
+    fn names_is_read(state: State, array: &[u8], sector: usize, name: &[u8]) -> Told {
+        binding::names_is_read(state.into(), array, sector, name).into()
+    }
+
+    fn names_mark(
+        state: State,
+        wp_high: bool,
+        array: &[u8],
+        sector: usize,
+        name: &[u8],
+        buffer: &mut [u8],
+    ) -> Planned {
+        binding::names_mark(state.into(), wp_high, array, sector, name, buffer).into()
+    }
+
+    fn names_move(
+        state: State,
+        wp_high: bool,
+        array: &[u8],
+        book: usize,
+        sector: usize,
+        list: &[u8],
+        buffer: &mut [u8],
+    ) -> Planned {
+        binding::names_move(state.into(), wp_high, array, book, sector, list, buffer).into()
+    }
+
+    fn names_back(
+        state: State,
+        wp_high: bool,
+        array: &[u8],
+        sector: usize,
+        book: usize,
+        list: &[u8],
+        buffer: &mut [u8],
+    ) -> Returned {
+        binding::names_back(state.into(), wp_high, array, sector, book, list, buffer).into()
     }
 }

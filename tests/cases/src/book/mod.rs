@@ -13,6 +13,7 @@ mod sweep;
 use model::SCENES;
 
 pub use books::{Books, Found};
+pub(crate) use drawn::no_sector;
 pub use drawn::{scenes, sector, short_list};
 pub(crate) use items::{mark, question};
 pub use marks::Mark;

@@ -6,7 +6,7 @@ use model::{kind, Reason, SECTOR};
 
 use super::salvage_sorts::{Miss, RoomSort, SectorSort};
 use super::sorts::{AskedSort, FrameSort, ListSort, PlanSort, ScriptSort, TimeSort, WrongBookSort};
-use super::Met;
+use super::{names_goals, Met};
 use crate::book::Promise;
 use crate::case::BAD_RECORD;
 use crate::salvage::{self, WRONG_LENGTHS};
@@ -30,7 +30,7 @@ impl fmt::Display for Goals {
 /// Everything that has to be met.
 pub fn goals() -> Vec<Goals> {
     let goal = |name, least, each| Goals { name, least, each };
-    vec![
+    let mut goals = vec![
         goal("opcodes taken", 50, taken("frame")),
         goal("opcodes ignored, by reason", 50, ignored("frame")),
         goal("opcodes unknown", 50, unknown("frame")),
@@ -60,7 +60,9 @@ pub fn goals() -> Vec<Goals> {
         goal("sorts of room for a list", 1_000, room_sorts()),
         goal("sector slices, by their lengths", 100, slices()),
         goal("promises of A9 tested", 500, salvage_promises()),
-    ]
+    ];
+    goals.extend(names_goals::goals());
+    goals
 }
 
 fn known() -> impl Iterator<Item = (u8, u8)> {

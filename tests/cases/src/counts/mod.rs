@@ -1,6 +1,9 @@
 //! What the cases met, and how often each of it has to be met.
 
 mod goals;
+mod names;
+mod names_goals;
+mod names_sorts;
 mod salvage_sorts;
 mod sorts;
 
@@ -11,11 +14,15 @@ use model::{Model, Reason, State, BOOK};
 use crate::book::{self, Promise};
 use crate::case::{Case, On, Outcome, BAD_RECORD};
 use crate::generator::Item;
+use crate::names::Promise as NamesPromise;
 use crate::salvage::{self, Call, Lent, Parts};
 use crate::unread::Clause;
 use crate::worst::{Found, Limit};
 use crate::CHIPS;
 pub use goals::{goals, Goals};
+use names_sorts::{
+    BackSort, BadListSort, BadNameSort, MoveSort, PresentSort, QuestionSort, TargetSort, TwiceSort,
+};
 use salvage_sorts::{Miss, RoomSort, SectorSort};
 use sorts::{AskedSort, FrameSort, ListSort, PlanSort, ScriptSort, TimeSort, WrongBookSort};
 
@@ -74,6 +81,28 @@ pub enum Met {
     Slices { sector: usize, kept: usize },
     /// A sector put this promise of A9 to the test.
     Salvaged { promise: salvage::Promise },
+    /// A question about a name that was answered was of this sort.
+    Question { sort: QuestionSort },
+    /// What stood where records were to go was of this sort.
+    Target { call: &'static str, sort: TargetSort },
+    /// A name that is there was marked, in a sector of this sort.
+    Present { sort: PresentSort },
+    /// An accepted move was of this sort.
+    Moved { sort: MoveSort },
+    /// A way back was of this sort.
+    Returned { sort: BackSort },
+    /// A plan of flags by name was of this sort.
+    NamesPlan { call: &'static str, chip: u8, sort: PlanSort },
+    /// A name was refused for this.
+    BadName { call: &'static str, sort: BadNameSort },
+    /// A list, or a read scene past it, was.
+    BadList { call: &'static str, sort: BadListSort },
+    /// A name stood twice in a list, like this.
+    Twice { call: &'static str, sort: TwiceSort },
+    /// The source, or the target, alone was no sector.
+    WrongSector { call: &'static str, source: bool, sort: WrongBookSort },
+    /// This promise of A7 was put to the test.
+    Named { chip: u8, promise: NamesPromise },
 }
 
 #[derive(Default)]
@@ -269,9 +298,14 @@ fn known(chip: u8) -> u8 {
 }
 
 /// The place of a refusal in the order of checks: a script's output comes last, of its records the
-/// first bad one decides, and a book's own refusal stands between the chip's and the planner's.
+/// first bad one decides, a book's own refusal stands between the chip's and the planner's, and so
+/// do those of flags by name.
 fn rank(call: &str, number: u32) -> u32 {
+    const OF_NAMES: [u32; 11] = [1, 2, 15, 6, 18, 19, 20, 7, 8, 9, 10];
     match (call, number) {
+        _ if call.starts_with("names_") => {
+            OF_NAMES.iter().position(|other| *other == number).map_or(0, |at| at as u32)
+        }
         ("run", 4) => *BAD_RECORD.end() + 1,
         (_, book::WRONG_BOOK) => 3,
         _ if BAD_RECORD.contains(&number) => *BAD_RECORD.start(),

@@ -18,7 +18,7 @@ pub use images::Image;
 pub use lent::{Lent, WRONG_LENGTHS};
 pub(crate) use parts::Parts;
 pub use promises::Promise;
-pub(crate) use records::{HEAD, LONGEST_NAME};
+pub(crate) use records::{filling, name, record, text, HEAD, LONGEST_NAME};
 pub use salvages::{Found, Salvages};
 pub(crate) use samples::failing;
 

@@ -1,11 +1,12 @@
 //! The wrong copies of the model against the right one: `sharpness [seed]`. Each has to be told
 //! apart by the cases that the library is compared with, and the right model must not be. Some have
-//! to break clauses of A14, limits of A8 or promises of A2 or A9 too, which the right model must
+//! to break clauses of A14, limits of A8 or promises of A2, A7 or A9 too, which the right model must
 //! keep.
 
 mod broken;
 mod clauses;
 mod limits;
+mod names;
 mod promises;
 mod salvages;
 
@@ -35,8 +36,9 @@ fn main() -> ExitCode {
         limits::are_kept(seed),
         promises::are_kept(seed),
         salvages::are_kept(seed),
+        names::are_kept(seed),
     ];
-    let mut sharp = right == [true; 5];
+    let mut sharp = right == [true; 6];
 
     let broken = "clause of A14 and script, limit of A8 and plan, promise of A2 and mark";
     println!("{:<28} {:>8}  {:<12}  {broken}", "wrong copy", "case", "call");
@@ -46,6 +48,7 @@ fn main() -> ExitCode {
         sharp &= told.is_enough(*fault);
     }
     sharp &= salvages::are_told(seed);
+    sharp &= names::are_told(seed);
     if sharp && clauses::tell_a_copy_by_itself(&scripts) {
         ExitCode::SUCCESS
     } else {
