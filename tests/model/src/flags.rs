@@ -14,21 +14,29 @@ use crate::{Planned, Returned, State, Told};
 /// Whether a record has the name.
 #[inline(always)]
 pub fn names_is_read(fault: Fault, state: State, array: &[u8], sector: usize, name: &[u8]) -> Told {
-    let asked = || {
-        let [image] = sectors::<1>(fault, &state, array, [sector])?;
-        let active = state.aai || state.power_down;
-        if Fault::BusyQuestionRefused.is(fault) && state.left > 0
-            || Fault::ActiveQuestionRefused.is(fault) && active
-        {
-            return Err(refusal::NOT_AT_REST);
-        }
-        match form(fault).is_name(name) || is_long_enough(fault, name) {
-            true => Ok(has(fault, image, name).into()),
-            false if Fault::BadNameUnread.is(fault) => Ok(0),
-            false => Err(refusal::BAD_NAME),
-        }
-    };
-    Told::of(state, asked())
+    Told::of(state, is_read(fault, &state, array, sector, name))
+}
+
+#[inline(always)]
+fn is_read(
+    fault: Fault,
+    state: &State,
+    array: &[u8],
+    sector: usize,
+    name: &[u8],
+) -> Result<u32, u32> {
+    let [image] = sectors(fault, state, array, [sector])?;
+    let active = state.aai || state.power_down;
+    if Fault::BusyQuestionRefused.is(fault) && state.left > 0
+        || Fault::ActiveQuestionRefused.is(fault) && active
+    {
+        return Err(refusal::NOT_AT_REST);
+    }
+    match form(fault).is_name(name) || is_long_enough(fault, name) {
+        true => Ok(has(fault, image, name).into()),
+        false if Fault::BadNameUnread.is(fault) => Ok(0),
+        false => Err(refusal::BAD_NAME),
+    }
 }
 
 /// Plans the marking of a name.

@@ -46,9 +46,15 @@ pub fn has(fault: Fault, image: &[u8], name: &[u8]) -> bool {
         true => front(fault, image).len(),
         false => usize::MAX,
     };
-    let looked_at = if Fault::FirstRecordOnly.is(fault) { 1 } else { usize::MAX };
-    let mut records = records(fault, image).take(looked_at);
-    records.any(|(record, end)| end != last && is_name(fault, record, name))
+    for (record, end) in records(fault, image) {
+        if end != last && is_name(fault, record, name) {
+            return true;
+        }
+        if Fault::FirstRecordOnly.is(fault) {
+            return false;
+        }
+    }
+    false
 }
 
 /// Whether a record's name is the one that is asked for.

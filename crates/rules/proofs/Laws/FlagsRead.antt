@@ -70,13 +70,12 @@ names-from bytes at [] rest good is ends =
 names-from bytes at (name ∷ names) rest good is ends =
     let behind : List ℕ = recordsBytes true names ++ rest in
     let opened : drop at bytes ≡ recordBytes true name ++ behind =
-    is ∙ ap (λ (l : List ℕ). l ++ rest) (records-first true name names) ∙ append-assoc (recordBytes true name) (recordsBytes true names) rest in
-    (
+    is ∙ ap (λ (l : List ℕ). l ++ rest) (records-first true name names) ∙ append-assoc (recordBytes true name) (recordsBytes true names) rest in (
       good-record bytes at name (good .0) (ap (take (3 + length name)) opened ∙ take-at (recordBytes true name) behind (3 + length name) (omega arith)),
       (
         ap (take (length name)) (sym (drop-drop 3 at bytes) ∙ ap (drop 3) opened) ∙ take-append-seam name behind,
         names-from bytes (at + (3 + length name)) names rest (good .1)
-        (sym (drop-drop (3 + length name) at bytes) ∙ ap (drop (3 + length name)) opened ∙ drop-at (recordBytes true name) behind (3 + length name) (omega arith)) ends,
+            (sym (drop-drop (3 + length name) at bytes) ∙ ap (drop (3 + length name)) opened ∙ drop-at (recordBytes true name) behind (3 + length name) (omega arith)) ends,
       ),
     )
 
@@ -120,8 +119,7 @@ listed-from list at (name ∷ names) good inside is =
     let opened : drop at list ≡ length name ∷ (name ++ rest) = is ∙ entries-first name names in
     let fits : at + (1 + length name) ≤ length list = omega (arith, inside, ap length opened, length-append name rest, length-drop at list) in
     let split : getD list at 0 ∷ drop (suc at) list ≡ length name ∷ (name ++ rest) = sym (drop-cons list at 0 (omega (arith, fits))) ∙ opened in
-    let long : getD list at 0 ≡ length name = cc split in
-    (
+    let long : getD list at 0 ≡ length name = cc split in (
       means-name name .when (good .0),
       (
         fits,
@@ -130,7 +128,7 @@ listed-from list at (name ∷ names) good inside is =
           (
             ap (take (length name)) (sym (drop-drop 1 at list) ∙ ap (drop 1) opened) ∙ take-append-seam name rest,
             listed-from list (at + (1 + length name)) names (good .1) fits
-            (sym (drop-drop (1 + length name) at list) ∙ ap (drop (1 + length name)) opened ∙ drop-at (length name ∷ name) rest (1 + length name) (omega arith)),
+                (sym (drop-drop (1 + length name) at list) ∙ ap (drop (1 + length name)) opened ∙ drop-at (length name ∷ name) rest (1 + length name) (omega arith)),
           ),
         ),
       ),

@@ -219,11 +219,11 @@ module _ (Wanted : List ℕ → Type 0) (want : List ℕ) (it : Wanted want) (on
 
   pub planner-rows : (s : State) (wp : Bool) (array : List ℕ) (start : ℕ) (buffer : List ℕ) → Bytes want
       → AllMeant (fittingRefusals s wp array start want (length buffer))
-        (7 when NotAtRest s
-        ∷ 8 when WantedAnd Wanted (λ w. WantedRises array start w)
-        ∷ 9 when WantedAnd Wanted (λ w. StatusLocked s wp array start w)
-        ∷ 10 when WantedAnd Wanted (λ w. BufferTooShort s array start w buffer)
-        ∷ [])
+      (7 when NotAtRest s
+      ∷ 8 when WantedAnd Wanted (λ w. WantedRises array start w)
+      ∷ 9 when WantedAnd Wanted (λ w. StatusLocked s wp array start w)
+      ∷ 10 when WantedAnd Wanted (λ w. BufferTooShort s array start w buffer)
+      ∷ [])
   unfolding bytesNeeded
   planner-rows s wp array start buffer bytes =
       row (means-not-at-rest s) (λ _. refl)

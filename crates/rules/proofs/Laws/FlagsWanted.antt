@@ -92,8 +92,7 @@ laid-from m wanted at (name ∷ names) fits same erased =
     let long = record-length m name names in
     let here : at + 0 ≡ at = omega arith in
     let next : (k : ℕ) → at + (3 + length name) + k ≡ at + (3 + length name + k) = λ k. omega arith in
-    let body : (i : ℕ) → at + 3 + i ≡ at + (3 + i) = λ i. omega arith in
-    (
+    let body : (i : ℕ) → at + 3 + i ≡ at + (3 + i) = λ i. omega arith in (
       ap (λ (k : ℕ). getD wanted k 0) (sym here) ∙ same 0 (omega (arith, long)) ∙ at-mark m name names,
       (
         same 1 (omega (arith, long)) ∙ at-second m name names,
@@ -101,10 +100,10 @@ laid-from m wanted at (name ∷ names) fits same erased =
           same 2 (omega (arith, long)) ∙ at-length m name names,
           (
             part-is wanted (at + 3) (length name) (omega (arith, long, fits)) name refl
-            (λ i h. ap (λ (k : ℕ). getD wanted k 0) (body i) ∙ same (3 + i) (omega (arith, h, long)) ∙ at-name m name names i h),
+                (λ i h. ap (λ (k : ℕ). getD wanted k 0) (body i) ∙ same (3 + i) (omega (arith, h, long)) ∙ at-name m name names i h),
             laid-from m wanted (at + (3 + length name)) names (omega (arith, long, fits))
-            (λ k h. ap (λ (j : ℕ). getD wanted j 0) (next k) ∙ same (3 + length name + k) (omega (arith, h, long)) ∙ at-behind m name names k)
-            (λ k from below. erased k (omega (arith, from, long)) below),
+                (λ k h. ap (λ (j : ℕ). getD wanted j 0) (next k) ∙ same (3 + length name + k) (omega (arith, h, long)) ∙ at-behind m name names k)
+                (λ k from below. erased k (omega (arith, from, long)) below),
           ),
         ),
       ),
@@ -173,16 +172,15 @@ module _ (image : List ℕ) where
       let byte : (k : ℕ) → k < length (recordsBytes false (name ∷ names)) → (getD (recordsBytes false (name ∷ names)) k 0 ≡ 0xff → ⊥)
       → getD image (at + k) 0 ≡ getD (recordsBytes false (name ∷ names)) k 0 = λ k h used. sym (getD-drop at image k 0) ∙ s k h used in
       let body : (i : ℕ) → at + 3 + i ≡ at + (3 + i) = λ i. omega arith in
-      let next : (k : ℕ) → at + (3 + length name) + k ≡ at + (3 + length name + k) = λ k. omega arith in
-      (
+      let next : (k : ℕ) → at + (3 + length name) + k ≡ at + (3 + length name + k) = λ k. omega arith in (
         byte 2 (omega (arith, long)) (λ e. omega (arith, e, at-length false name names, most)) ∙ at-length false name names,
         (
           part-is image (at + 3) (length name) (omega (arith, long, fits)) name refl
-          (λ i h. ap (λ (k : ℕ). getD image k 0) (body i)
-          ∙ byte (3 + i) (omega (arith, h, long)) (λ e. omega (arith, e, at-name false name names i h, name-below name (good .0) i h)) ∙ at-name false name names i h),
+              (λ i h. ap (λ (k : ℕ). getD image k 0) (body i)
+              ∙ byte (3 + i) (omega (arith, h, long)) (λ e. omega (arith, e, at-name false name names i h, name-below name (good .0) i h)) ∙ at-name false name names i h),
           stands-whole (at + (3 + length name)) names (good .1) (omega (arith, long, fits))
-          (λ k h used. getD-drop (at + (3 + length name)) image k 0 ∙ ap (λ (j : ℕ). getD image j 0) (next k)
-          ∙ byte (3 + length name + k) (omega (arith, h, long)) (λ e. used (sym (at-behind false name names k) ∙ e)) ∙ at-behind false name names k),
+              (λ k h used. getD-drop (at + (3 + length name)) image k 0 ∙ ap (λ (j : ℕ). getD image j 0) (next k)
+              ∙ byte (3 + length name + k) (omega (arith, h, long)) (λ e. used (sym (at-behind false name names k) ∙ e)) ∙ at-behind false name names k),
         ),
       )
 
