@@ -10,10 +10,11 @@ unfoldable pub isTwice : List (List ℕ) → Bool
 isTwice [] = false
 isTwice (name ∷ others) = isOn name others || isTwice others
 
--- A print of a name: equal names have equal prints. It is a polynomial in 31, so that a difference in any byte tells.
+-- A print of a name: equal names have equal prints. It is a polynomial in 251, more than any byte of a name, so that short names that differ have
+-- different prints.
 unfoldable pub printFrom : ℕ → List ℕ → ℕ
 printFrom print [] = print
-printFrom print (x ∷ xs) = printFrom ((print * 31 + x) % 16777216) xs
+printFrom print (x ∷ xs) = printFrom ((print * 251 + x) % 16777216) xs
 
 unfoldable pub printOf : List ℕ → ℕ
 printOf name = printFrom 0 name

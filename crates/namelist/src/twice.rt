@@ -14,7 +14,7 @@ fn print_of(name: &[u8]) -> u32
     let mut i: usize = 0;
     while i < name.len() {
         // kept below 2^24, so that the next product fits
-        print = (print * 31 + common::wide(name[i])) % 16777216;
+        print = (print * 251 + common::wide(name[i])) % 16777216;
         i += 1;
     }
     print

@@ -23,7 +23,7 @@ unfolding printOf
 print-start name = refl
 
 module _ (name : List ℕ) (print i : ℕ) where
-  pub print-turn : i < length name → printFrom print (drop i name) ≡ printFrom ((print * 31 + getD name i 0) % 16777216) (drop (i + 1) name)
+  pub print-turn : i < length name → printFrom print (drop i name) ≡ printFrom ((print * 251 + getD name i 0) % 16777216) (drop (i + 1) name)
   unfolding printFrom
   print-turn h = rw (add-one i, drop-cons name i 0 h) refl
 
