@@ -41,10 +41,16 @@ pub mod Book
 pub mod Salvaged
 pub mod Salvage
 pub mod FlagsRead
+pub mod FlagsLaid
 pub mod FlagsWanted
 pub mod FlagsPlans
 pub mod FlagsRefused
+pub mod FlagsCalls
+pub mod FlagsLists
+pub mod FlagsSent
 pub mod FlagsLeft
 pub mod FlagsMoved
+pub mod FlagsAgain
+pub mod FlagsRestored
 pub mod Flags
 pub mod Demands

@@ -13,7 +13,6 @@ use Rattle.script.specs.Reader.{recordAt}
 use Rattle.run.specs.declared.Ran.{Ran}
 use Rattle.run.specs.Script.{ScriptRun}
 use Rattle.names.specs.Records.{Begins}
-use Rattle.flags.specs.declared.Returned.{Returned}
 use Rattle.flags.specs.Answers.{NameMarks, BookMoves, BookReturns}
 use Rattle.rules.specs.Driver.{SentTo, CutAt}
 use Rattle.rules.specs.Worst.{worstBytes}
@@ -82,6 +81,9 @@ MoveBehind wp chip book sector list after = Behind (λ buffer after planned. Mov
 abbrev pub BackSent : Bool → Device → ℕ → ℕ → List ℕ → ℕ → Device → Type 0
 BackSent wp chip sector book list count done = Sent (λ buffer after planned. Returning wp chip sector book list count buffer after planned) wp chip done
 
+abbrev pub BackLost : Bool → Device → ℕ → ℕ → List ℕ → ℕ → Device → Type 0
+BackLost wp chip sector book list count lost = Lost (λ buffer after planned. Returning wp chip sector book list count buffer after planned) wp chip lost
+
 abbrev pub BackBehind : Bool → Device → ℕ → ℕ → List ℕ → ℕ → Device → Type 0
 BackBehind wp chip sector book list count after = Behind (λ buffer after planned. Returning wp chip sector book list count buffer after planned) wp chip after
 
@@ -117,8 +119,7 @@ pub record MarkAgain (sector : ℕ) (name : List ℕ) (chip : Device) : Type 0 w
 pub record MarkAdded (sector : ℕ) (name before after : List ℕ) : Type 0 where
   pub names : List (List ℕ)
   pub names-were : NamesAre (sectorBytes before sector) 0 names
-  pub appended : (Member name names → ⊥)
-      → NamesAre (sectorBytes after sector) 0 (names ++ (name ∷ [])) × Laid (sectorBytes after sector) 0x4e 0x52 0 (names ++ (name ∷ []))
+  pub appended : (Member name names → ⊥) → NamesAre (sectorBytes after sector) 0 (names ++ (name ∷ []))
   pub there : Member name names → sectorBytes after sector ≡ sectorBytes before sector
   pub beside : BesideNames sector before after
 
@@ -134,6 +135,14 @@ pub record MoveLeft (book sector : ℕ) (list before after : List ℕ) : Type 0 
   pub first-plan : (Whole (sectorBytes before sector) 0 (pickedNames (flag before book) 0 names) → ⊥) → NamesAre (sectorBytes after sector) 0 []
   pub book-stays : (scene : ℕ) → scene < 4096 → flag after book scene ≡ flag before book scene
   pub beside : BesideNames sector before after
+
+-- and moved again, at any level and in any room
+pub record MoveAgain (book sector : ℕ) (list : List ℕ) (chip : Device) : Type 0 where
+  pub never-8 : (wp : Bool) (buffer after : List ℕ) (planned : Planned) → Moving wp chip book sector list buffer after planned → planned .number ≡ 8 → ⊥
+  pub never-20 : (wp : Bool) (buffer after : List ℕ) (planned : Planned) → Moving wp chip book sector list buffer after planned → planned .number ≡ 20 → ⊥
+  -- with BPL 0 or WP high, and the room of the worst case
+  pub accepted : (wp : Bool) (buffer after : List ℕ) (planned : Planned) → Moving wp chip book sector list buffer after planned
+      → (chip .state .bpl ≡ false) ⊎ (wp ≡ true) → worstBytes (chip .state .chip) ≤ length buffer → planned .number ≡ 0
 
 -- both plans sent: "records for the read scenes in list order"
 pub record MoveDone (book sector : ℕ) (list before after : List ℕ) : Type 0 where
@@ -151,6 +160,13 @@ pub record BackLeft (sector book : ℕ) (list before after : List ℕ) : Type 0 
   pub records-are : NamesAre (sectorBytes before sector) 0 records
   pub only-listed : (scene : ℕ) → scene < 4096 → flag after book scene ≡ 0 → (flag before book scene ≡ 0) ⊎ Member (getD names scene []) records
   pub beside : BesideNames book before after
+
+-- and planned again behind a cut, at the level of the first plan, with 22 bytes more room or the room of the worst case
+pub record BackAgain (wp : Bool) (sector book : ℕ) (list : List ℕ) (room : ℕ) (chip : Device) : Type 0 where
+  pub accepted : (count : ℕ) (buffer after : List ℕ) (planned : Planned) → Returning wp chip sector book list count buffer after planned
+      → room + 22 ≤ length buffer → planned .number ≡ 0
+  pub accepted-in-worst : (count : ℕ) (buffer after : List ℕ) (planned : Planned) → Returning wp chip sector book list count buffer after planned
+      → worstBytes (chip .state .chip) ≤ length buffer → planned .number ≡ 0
 
 -- ---- over a history
 

@@ -26,6 +26,7 @@ pub mod Worst
 pub mod Book
 pub mod Salvage
 pub mod FlagsWanted
+pub mod FlagsCalls
 pub mod FlagsLeft
 pub mod Flags
 pub mod Demands

@@ -4,7 +4,7 @@ use mathlib.Core.Path.{_≡_, refl, sym, ap, _∙_}
 use mathlib.Core.Bool.{Bool, true, false, cond, _||_}
 use mathlib.Core.List.{List, []}
 use mathlib.Core.Logic.{⊎-elim}
-use Prim.Native.Nat.{ℕ, _+_, _*_, _/_, _%_, _≤_, _<_}
+use Prim.Native.Nat.{ℕ, _+_, _/_, _%_, _≤_, _<_}
 use native.Mathlib.Omega.{arith}
 use lib.Dec.{eqb}
 use lib.ListN.{length, getD, List·getD-eq-default}
@@ -31,7 +31,7 @@ use Rattle.flags.specs.Answers.{isNameRead, BookMoves, plannedOf, BookReturns}
 use Rattle.namecut.specs.Leaves.{sectorNames, BesideSector, MoveFinished, BackFinished, BackLost, BehindBack, BackLeaves}
 use Rattle.sectors.proofs.Laws.Images.{sector-at}
 use Rattle.sectors.proofs.Laws.There.{read-names-on, read-exactly, past-none}
-use Rattle.sectors.proofs.Laws.Back.{nothing-on, unlisted-none, back-flag, back-long, back-front, back-bytes}
+use Rattle.sectors.proofs.Laws.Back.{nothing-on, unlisted-none, back-long, back-bytes, back-bit}
 use Rattle.namecut.proofs.Laws.Between.{Between, updated-sector}
 use Rattle.flags.proofs.Laws.Opened.{back-refusal-of, list-opened, book-fits, names-fit}
 use Rattle.namecut.proofs.Laws.Appended.{kept, sector-between, sector-beside, fits-behind}
@@ -41,15 +41,8 @@ use Rattle.namecut.proofs.Laws.Moved.{opened, moved-names}
 -- ---- what is wanted of the book, by the scene
 
 module _ (records names : List (List ℕ)) (good : AllNames records) (scene : ℕ) (inside : scene < 4096) where
-  back-bit : bitAt (getD (wantedBack records names) (scene / 8) 0) (scene % 8) ≡ cond (isOn (getD names scene []) records) 0 1
-  back-bit =
-      let is : scene / 8 * 8 + scene % 8 ≡ scene = omega arith in
-      ap (λ (x : ℕ). bitAt x (scene % 8)) (back-front names records (scene / 8) (omega arith))
-      ∙ back-flag names records good (scene / 8) (scene % 8) (omega arith) (omega arith)
-      ∙ ap (λ (k : ℕ). cond (isOn (getD names k []) records) 0 1) is
-
   wanted-read : eqb (bitAt (getD (wantedBack records names) (scene / 8) 0) (scene % 8)) 0 ≡ isOn (getD names scene []) records
-  wanted-read = ap (λ (x : ℕ). eqb x 0) back-bit ∙ by (isOn (getD names scene []) records)
+  wanted-read = ap (λ (x : ℕ). eqb x 0) (back-bit names records good scene inside) ∙ by (isOn (getD names scene []) records)
     where
       by : (t : Bool) → eqb (cond t 0 1) 0 ≡ t
       by true = refl

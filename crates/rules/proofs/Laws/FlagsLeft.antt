@@ -1,132 +1,41 @@
 -- Flags by name: what a marking leaves, sent to the chip as a driver does or cut on the way, by the places of the sector.
 -- Assumes nothing.
-use mathlib.Core.Path.{_≡_, refl, sym, ap, _∙_}
-use mathlib.Core.Bool.{Bool, true, false, true≢false, not}
+use mathlib.Core.Path.{_≡_, sym, ap, _∙_}
+use mathlib.Core.Bool.{Bool, true, false, not}
 use mathlib.Core.List.{List, [], _∷_, _++_}
-use mathlib.Core.Logic.{_⊎_, inl, inr, ⊎-elim}
-use Prim.Native.Nat.{ℕ, _+_, _≤_, _<_}
+use mathlib.Core.Logic.{inl, inr, ⊎-elim}
+use Prim.Native.Nat.{ℕ, _+_, _≤_}
 use native.Mathlib.Omega.{arith}
 use lib.Dec.{ltb}
-use lib.ListN.{length, take}
+use lib.ListN.{length, getD}
 use borrow.Author.Tests.{ltb-false}
 use Rattle.common.specs.Bits.{Bytes}
+use Rattle.common.specs.Refusals.{Exactly}
 use Rattle.common.proofs.Laws.Booleans.{and-off, not-i}
 use Rattle.common.proofs.Laws.Choice.{cases}
-use Rattle.common.proofs.Laws.Places.{within-below, within-above}
 use Rattle.state.specs.declared.Planned.{Planned}
 use Rattle.frame.specs.Device.{Device}
-use Rattle.plan.specs.Update.{PlanUpdated, Plans}
 use Rattle.worst.specs.Worst.{roomEnough}
-use Rattle.powercut.specs.PowerCut.{Finished, PowerLost, BehindPlan}
-use Rattle.powercut.proofs.Laws.Calls.{accepted-run-finished}
-use Rattle.promises.specs.Promises.{ReadyToPlan, PlansUnless}
-use Rattle.promises.proofs.Laws.Unless.{unless-none, unless-kept}
-use Rattle.names.specs.Records.{isName, namesOf, recordsBytes}
+use Rattle.powercut.specs.PowerCut.{Finished, BehindPlan}
+use Rattle.names.specs.Records.{namesOf, recordsBytes}
 use Rattle.names.specs.Search.{isOn}
-use Rattle.names.proofs.Laws.Walk.{records-long, records-one}
+use Rattle.names.proofs.Laws.Walk.{records-one}
 use Rattle.sectors.specs.Images.{sectorPart, wantedMark}
-use Rattle.sectors.proofs.Laws.Images.{sector-long}
-use Rattle.flags.specs.Refusals.{isFull, markRefusal}
-use Rattle.namecut.specs.Leaves.{BesideSector, isFirstMark, MarkLeaves, NameAdded}
-use Rattle.namecut.proofs.Laws.Marking.{is-read-is, opened, inside, mark-leaves, mark-goes-on}
+use Rattle.sectors.proofs.Laws.Images.{sector-long, sector-at, mark-there}
+use Rattle.flags.specs.Refusals.{markRefusal}
+use Rattle.namecut.specs.Leaves.{isFirstMark, MarkLeaves, NameAdded}
+use Rattle.namecut.proofs.Laws.Marking.{is-read-is, opened, inside, mark-leaves, mark-goes-on, want-long, on-last, mark-answered}
 use Rattle.namecut.proofs.Laws.Added.{mark-adds, mark-done}
-use Rattle.rules.specs.Driver.{CutAt}
-use Rattle.rules.specs.FlagsWanted.{sectorBytes, Member, NamesAre, recordsLength, Laid, Whole}
-use Rattle.rules.specs.FlagsLeft.{Done, sent, run, Sent, Lost, Marking, Behind, MarkSent, MarkBehind, BesideNames, MarkLeft, MarkAgain, MarkAdded}
-use Rattle.rules.proofs.Laws.Driver.{sent-finished, cut-lost}
+use Rattle.rules.specs.FlagsWanted.{sectorBytes, Member, NamesAre, recordsLength, Laid, Whole, MarkWants}
+use Rattle.rules.specs.FlagsLeft.{Marking, MarkSent, MarkBehind, MarkLeft, MarkAgain, MarkAdded}
+use Rattle.rules.specs.FlagsCalls.{WantedAnd}
 use Rattle.rules.proofs.Laws.Worst.{worst-bytes}
-use Rattle.rules.proofs.Laws.FlagsRead.{sector-part, means-member, means-no-member, sector-names-are, sector-names-only, records-measure}
-use Rattle.rules.proofs.Laws.FlagsWanted.{padded-laid, whole-exactly}
+use Rattle.rules.proofs.Laws.FlagsRead.{sector-part, means-member, means-no-member, sector-names-are, sector-names-only, records-measure, names-only}
+use Rattle.rules.proofs.Laws.FlagsLaid.{padded-laid}
+use Rattle.rules.proofs.Laws.FlagsWanted.{whole-exactly}
 use Rattle.rules.proofs.Laws.FlagsPlans.{measure-more}
-
--- ---- behind a plan
-
--- a call's accepted plan for a chip, and the chip behind its script
-pub record Went (own : ℕ) (wp : Bool) (chip : Device) (start : ℕ) (wanted : List ℕ) (Behind : Type 0) : Type 0 where
-  pub buffer : List ℕ
-  pub after : List ℕ
-  pub planned : Planned
-  pub unless : PlansUnless own (chip .state) wp (chip .array) start wanted buffer after planned
-  pub accepted : planned .number ≡ 0
-  pub behind : Behind
-
-module _ (own : ℕ) (wp : Bool) (chip : Device) (start : ℕ) (wanted : List ℕ) where
-  abbrev Answer : List ℕ → List ℕ → Planned → Type 0
-  Answer buffer after planned = PlansUnless own (chip .state) wp (chip .array) start wanted buffer after planned
-
-  module _ (buffer after : List ℕ) (planned : Planned) (u : Answer buffer after planned) (good : planned .number ≡ 0) where
-    plan-of : PlanUpdated (chip .state) wp (chip .array) start wanted buffer after planned
-    unfolding Plans
-    plan-of = u .planned (unless-none own (chip .state) wp (chip .array) start wanted buffer after planned u good)
-
-    pub done-finished : {done : Device} → Done wp (take (planned .length) after) chip done → Finished wp chip start wanted done
-    done-finished (sent to end) = sent-finished wp chip start wanted buffer after planned plan-of good to end
-    done-finished (run {output = output} ran accepted) = accepted-run-finished wp chip start wanted buffer after planned plan-of good output ran accepted
-
-    pub lost-power : {lost : Device} → CutAt wp (take (planned .length) after) chip lost → PowerLost wp chip start wanted lost
-    lost-power cut = cut-lost wp chip start wanted buffer after planned plan-of good cut
-
-  pub sent-went : {done : Device} → Sent (λ buffer after planned. Answer buffer after planned) wp chip done → Went own wp chip start wanted (Finished wp chip start wanted done)
-  sent-went s = record {
-    buffer = s .buffer;
-    after = s .after;
-    planned = s .planned;
-    unless = s .answers;
-    accepted = s .accepted;
-    behind = done-finished (s .buffer) (s .after) (s .planned) (s .answers) (s .accepted) (s .finished);
-  }
-
-  pub behind-went : {done : Device} → Behind (λ buffer after planned. Answer buffer after planned) wp chip done
-      → Went own wp chip start wanted (BehindPlan wp chip start wanted done)
-  behind-went (inl s) = record {
-    buffer = s .buffer;
-    after = s .after;
-    planned = s .planned;
-    unless = s .answers;
-    accepted = s .accepted;
-    behind = inl (done-finished (s .buffer) (s .after) (s .planned) (s .answers) (s .accepted) (s .finished));
-  }
-  behind-went (inr l) = record {
-    buffer = l .buffer;
-    after = l .after;
-    planned = l .planned;
-    unless = l .answers;
-    accepted = l .accepted;
-    behind = inr (lost-power (l .buffer) (l .after) (l .planned) (l .answers) (l .accepted) (l .cut));
-  }
-
-  pub finished-behind : (done : Device) → Went own wp chip start wanted (Finished wp chip start wanted done)
-      → Went own wp chip start wanted (BehindPlan wp chip start wanted done)
-  finished-behind done w = record {
-    buffer = w .buffer;
-    after = w .after;
-    planned = w .planned;
-    unless = w .unless;
-    accepted = w .accepted;
-    behind = inl (w .behind);
-  }
-
-  -- the chip is one that the next plan can be made for
-  pub went-ready : {done : Device} → Bytes (chip .array) → Went own wp chip start wanted (BehindPlan wp chip start wanted done) → ReadyToPlan (chip .state .chip) done
-  went-ready {done} bytes w = unless-kept own wp chip start wanted (w .buffer) (w .after) (w .planned) bytes (w .unless) (w .accepted) .ready done (w .behind)
-
-pub beside-names : (sector : ℕ) (before after : List ℕ) → BesideSector sector before after → BesideNames sector before after
-beside-names sector before after b = record {
-  same-length = b .same-length;
-  below = λ k h. b .same-beside k (within-below sector 4096 k h);
-  above = λ k h. b .same-beside k (within-above sector 4096 k h);
-}
-
-beside-both : {sector : ℕ} {first second third : List ℕ} → BesideNames sector first second → BesideNames sector second third → BesideNames sector first third
-beside-both p q = record {
-  same-length = q .same-length ∙ p .same-length;
-  below = λ k h. q .below k h ∙ p .below k h;
-  above = λ k h. q .above k h ∙ p .above k h;
-}
-
--- the names of a sector, where they are known
-pub names-now : (array : List ℕ) (sector : ℕ) (names : List (List ℕ)) → namesOf (sectorPart array sector) ≡ names → NamesAre (sectorBytes array sector) 0 names
-names-now array sector names e = rw e at (sector-names-are array sector)
+use Rattle.rules.proofs.Laws.FlagsCalls.{mark-it}
+use Rattle.rules.proofs.Laws.FlagsSent.{Went, sent-went, behind-went, finished-behind, went-ready, went-sector, beside-names, beside-both, names-now}
 
 -- ---- a marking
 
@@ -229,10 +138,8 @@ mark-added wp wp₂ chip mid done sector name bytes p q =
       names = names;
       names-were = sector-names-are (chip .array) sector;
       appended = λ never.
-          let absent = means-no-member name names .only-when never in (
-            names-now (done .array) sector (names ++ (name ∷ [])) (added wp chip sector name bytes wp₂ mid done first second absent .names-are),
-            laid-now wp chip sector name bytes wp₂ mid done first second absent,
-          );
+          names-now (done .array) sector (names ++ (name ∷ []))
+          (added wp chip sector name bytes wp₂ mid done first second (means-no-member name names .only-when never) .names-are);
       there = λ m.
           let same = unchanged wp chip sector name bytes mid behind m in
           let still : Member name (namesOf (sectorPart (mid .array) sector)) =
@@ -254,10 +161,77 @@ module _ (wp : Bool) (chip : Device) (sector : ℕ) (name : List ℕ) (after : D
   pub marking-again : MarkAgain sector name after
   marking-again = mark-again wp chip sector name bytes after went
 
--- "called again until the length is 0": nothing is left to do, and a record has the name
-pub nothing-left : (wp : Bool) (chip : Device) (sector : ℕ) (name buffer after : List ℕ) (planned : Planned) → Bytes (chip .array)
-    → Marking wp chip sector name buffer after planned → planned .number ≡ 0 → planned .length ≡ 0
-    → (names : List (List ℕ)) → NamesAre (sectorBytes (chip .array) sector) 0 names → Member name names
-nothing-left wp chip sector name buffer after planned bytes marks good empty names are =
+-- an accepted one is the empty script exactly where a record has the name
+pub mark-empty : (wp : Bool) (chip : Device) (sector : ℕ) (name buffer after : List ℕ) (planned : Planned) → Bytes (chip .array)
+    → Marking wp chip sector name buffer after planned → planned .number ≡ 0 → (names : List (List ℕ)) → NamesAre (sectorBytes (chip .array) sector) 0 names
+    → Exactly (planned .length ≡ 0) (Member name names)
+mark-empty wp chip sector name buffer after planned bytes marks good names are =
+    let image : List ℕ = sectorPart (chip .array) sector in
+    let fits = inside wp chip sector name buffer after planned bytes marks good in
+    let sized = sector-long (chip .array) sector fits in
     rw (sector-names-only (chip .array) sector names are)
-    (means-member name (namesOf (sectorPart (chip .array) sector)) .when (mark-done wp chip sector name buffer after planned bytes marks good empty))
+    record {
+      when = λ empty. means-member name (namesOf image) .when (mark-done wp chip sector name buffer after planned bytes marks good empty);
+      only-when = λ m.
+          let is = mark-there image name (means-member name (namesOf image) .only-when m) in
+          mark-answered wp chip sector name buffer after planned bytes marks good .empty-exactly good .only-when
+          (λ k h. sym (sector-at (chip .array) sector fits k (omega (arith, h, ap length is, sized))) ∙ ap (λ (l : List ℕ). getD l k 0) (sym is));
+    }
+
+pub mark-laid : (wp wp₂ : Bool) (chip mid done : Device) (sector : ℕ) (name : List ℕ) → Bytes (chip .array) → MarkSent wp chip sector name mid
+    → MarkSent wp₂ mid sector name done → (names : List (List ℕ)) → NamesAre (sectorBytes (chip .array) sector) 0 names → (Member name names → ⊥)
+    → Laid (sectorBytes (done .array) sector) 0x4e 0x52 0 (names ++ (name ∷ []))
+mark-laid wp wp₂ chip mid done sector name bytes p q names are never =
+    let is = sector-names-only (chip .array) sector names are in
+    let there : List (List ℕ) = namesOf (sectorPart (chip .array) sector) in
+    let new : Member name there → ⊥ = rw is at never in
+    let first = sent-went (markRefusal (chip .state) (chip .array) sector name) wp chip sector (wantedMark (sectorPart (chip .array) sector) name) p in
+    let second = sent-went (markRefusal (mid .state) (mid .array) sector name) wp₂ mid sector (wantedMark (sectorPart (mid .array) sector) name) q in
+    rw is (laid-now wp chip sector name bytes wp₂ mid done first second (means-no-member name there .only-when new))
+
+-- one plan sent: the sector is as wanted
+pub mark-sent : (wp : Bool) (chip done : Device) (sector : ℕ) (name : List ℕ) → Bytes (chip .array) → MarkSent wp chip sector name done
+    → WantedAnd (MarkWants (sectorBytes (chip .array) sector) name) (λ wanted. sectorBytes (done .array) sector ≡ wanted)
+mark-sent wp chip done sector name bytes s =
+    let want : List ℕ = wantedMark (sectorPart (chip .array) sector) name in
+    let own : ℕ = markRefusal (chip .state) (chip .array) sector name in
+    let w = sent-went own wp chip sector want s in
+    record {
+      wanted = want;
+      wants = mark-it (chip .state) (chip .array) sector name (opened wp chip sector name (w .buffer) (w .after) (w .planned) bytes (w .unless) (w .accepted));
+      holds = went-sector own wp chip sector want done bytes (inside wp chip sector name (w .buffer) (w .after) (w .planned) bytes (w .unless) (w .accepted))
+          (want-long wp chip sector name (w .buffer) (w .after) (w .planned) bytes (w .unless) (w .accepted)) w;
+    }
+
+-- cut, and then both plans sent
+pub mark-finishes : (wp wp₂ wp₃ : Bool) (chip lost mid done : Device) (sector : ℕ) (name : List ℕ) → Bytes (chip .array) → MarkBehind wp chip sector name lost
+    → MarkSent wp₂ lost sector name mid → MarkSent wp₃ mid sector name done → MarkAdded sector name (chip .array) (done .array)
+mark-finishes wp wp₂ wp₃ chip lost mid done sector name bytes b p q =
+    let own : ℕ = markRefusal (chip .state) (chip .array) sector name in
+    let want : List ℕ = wantedMark (sectorPart (chip .array) sector) name in
+    let left = marking-left wp chip sector name lost bytes b in
+    let behind = went-ready own wp chip sector want bytes (behind-went own wp chip sector want b) .bytes in
+    let more = mark-added wp₂ wp₃ lost mid done sector name behind p q in
+    let same-names : (names : List (List ℕ)) → NamesAre (sectorBytes (lost .array) sector) 0 names → more .names ≡ names =
+    λ names are. names-only (sectorBytes (lost .array) sector) 0 (more .names) names (more .names-were) are in
+    record {
+      names = left .names;
+      names-were = left .names-were;
+      appended = λ never.
+          ⊎-elim
+          (λ are. let is = same-names (left .names) are in
+          let new : Member name (more .names) → ⊥ = rw is never in
+          let now : NamesAre (sectorBytes (done .array) sector) 0 (left .names ++ (name ∷ [])) = rw is at (more .appended new) in
+          now)
+          (λ are. let is = same-names (left .names ++ (name ∷ [])) are in
+          let on : Member name (left .names ++ (name ∷ [])) = means-member name (left .names ++ (name ∷ [])) .when (on-last name (left .names)) in
+          let old : Member name (more .names) = rw is on in
+          rw (more .there old) are)
+          (left .names-are);
+      there = λ m.
+          let unmoved = left .there m in
+          let are : NamesAre (sectorBytes (lost .array) sector) 0 (left .names) = rw unmoved (left .names-were) in
+          let old : Member name (more .names) = rw (same-names (left .names) are) m in
+          more .there old ∙ unmoved;
+      beside = beside-both (left .beside) (more .beside);
+    }

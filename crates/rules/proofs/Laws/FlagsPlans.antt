@@ -4,44 +4,34 @@ use mathlib.Core.Path.{_≡_, refl, sym, ap, _∙_}
 use mathlib.Core.Bool.{Bool, true, false, cond, not}
 use mathlib.Core.List.{List, [], _∷_, _++_}
 use mathlib.Core.Logic.{⊎-elim}
-use Prim.Native.Nat.{ℕ, suc, _+_, _*_, _/_, _%_, _≤_, _<_}
+use Prim.Native.Nat.{ℕ, suc, _+_, _*_, _/_, _%_, _<_}
 use native.Mathlib.Omega.{arith}
 use lib.Dec.{ltb}
 use lib.ListN.{length, getD, length-append, List·getD-eq-default}
 use lib.Seq.{ext-getD}
-use borrow.Author.Tests.{ltb-false, eqb-true}
-use Rattle.common.specs.Bits.{Bytes, bitAt}
+use borrow.Author.Tests.{ltb-false}
+use Rattle.common.specs.Bits.{bitAt}
 use Rattle.common.specs.Refusals.{Exactly}
 use Rattle.common.proofs.Laws.Bits.{bit-lt, bits-ext}
 use Rattle.common.proofs.Laws.Booleans.{and-off, not-i}
 use Rattle.common.proofs.Laws.Choice.{cases}
 use Rattle.common.proofs.Laws.Lists.{split, getD-front}
+use Rattle.book.specs.Book.{isRead}
+use Rattle.book.proofs.Laws.Read.{read-is}
 use Rattle.names.specs.Records.{isName, AllNames, namesOf, recordsBytes}
 use Rattle.names.specs.Search.{isOn}
 use Rattle.names.proofs.Laws.Names.{names-split}
 use Rattle.names.proofs.Laws.Walk.{records-append, records-one}
 use Rattle.namelist.specs.Listed.{listed, namesIn, Good}
-use Rattle.book.specs.Book.{isRead}
-use Rattle.book.proofs.Laws.Read.{read-is}
-use Rattle.sectors.specs.Images.{sectorPart, wantedNames, wantedMark}
+use Rattle.sectors.specs.Images.{sectorPart, wantedMark}
 use Rattle.sectors.specs.Moves.{readNames, movedNames, areTooLong, wantedMove, wantedBack}
 use Rattle.sectors.proofs.Laws.Images.{mark-there, mark-appends}
 use Rattle.sectors.proofs.Laws.There.{read-names-none, read-names-first, read-names-later, read-names-good, move-wants}
-use Rattle.sectors.proofs.Laws.Back.{nothing-on, back-flag, back-long, back-front, back-behind, back-bytes}
+use Rattle.sectors.proofs.Laws.Back.{nothing-on, back-long, back-behind, back-bytes, back-bit}
 use Rattle.flags.specs.Refusals.{isFull}
 use Rattle.rules.specs.Book.{flag}
-use Rattle.rules.specs.FlagsWanted.{sectorBytes, Member, NamesAre, GoodList, recordsLength, Wants, MarkWants, pickedNames, MoveWants, BackWants}
-use Rattle.rules.proofs.Laws.FlagsRead.{
-  sector-part,
-  means-member,
-  means-no-member,
-  names-are,
-  sector-names-are,
-  names-only,
-  list-exactly,
-  list-only,
-  records-measure,
-}
+use Rattle.rules.specs.FlagsWanted.{sectorBytes, Member, recordsLength, Wants, MarkWants, pickedNames, MoveWants, BackWants}
+use Rattle.rules.proofs.Laws.FlagsRead.{sector-part, means-member, means-no-member, names-are, sector-names-are, names-only, list-exactly, list-only, records-measure}
 use Rattle.rules.proofs.Laws.FlagsWanted.{wants-made, wants-only}
 
 -- ---- a marking
@@ -135,11 +125,7 @@ module _ (records names : List (List ℕ)) (good : AllNames records) (scene : �
   scene-bit : flag (wantedBack records names) 0 scene ≡ cond on 0 1
   scene-bit =
       let here : 0 + scene / 8 ≡ scene / 8 = omega arith in
-      let is : scene / 8 * 8 + scene % 8 ≡ scene = omega arith in
-      ap (λ (k : ℕ). bitAt (getD (wantedBack records names) k 0) (scene % 8)) here
-      ∙ ap (λ (x : ℕ). bitAt x (scene % 8)) (back-front names records (scene / 8) (omega arith))
-      ∙ back-flag names records good (scene / 8) (scene % 8) (omega arith) (omega arith)
-      ∙ ap (λ (k : ℕ). cond (isOn (getD names k []) records) 0 1) is
+      ap (λ (k : ℕ). bitAt (getD (wantedBack records names) k 0) (scene % 8)) here ∙ back-bit names records good scene below
 
   -- no name past the list is among the records
   on-inside : on ≡ true → scene < length names

@@ -23,7 +23,6 @@ use Rattle.namelist.specs.Listed.{listed, namesIn, entriesBytes, Listing}
 use Rattle.namelist.proofs.Laws.Listed.{entries-none, entries-first, listing-names}
 use Rattle.sectors.specs.Images.{sectorPart}
 use Rattle.sectors.proofs.Laws.Images.{sector-sliced}
-use Rattle.rules.specs.Salvage.{GoodRecord}
 use Rattle.rules.specs.FlagsWanted.{sectorBytes, GoodName, Member, NameAt, NamesAre, ListedNames, GoodList, recordsLength}
 use Rattle.rules.proofs.Laws.Salvage.{good-record, good-found}
 

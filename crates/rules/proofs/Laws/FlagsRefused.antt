@@ -1,69 +1,49 @@
 -- Flags by name: what the calls test before they refuse, and the tables' words.
 -- Assumes nothing.
 use mathlib.Core.Path.{_≡_, refl, sym, ap, _∙_}
-use mathlib.Core.Bool.{Bool, true, false, true≢false, cond, not, _&&_, _||_}
+use mathlib.Core.Bool.{Bool, true, true≢false, not, _&&_, _||_}
 use mathlib.Core.List.{List, [], _∷_, _++_}
 use mathlib.Core.Logic.{_⊎_, inl, inr, ⊎-elim}
-use Prim.Native.Nat.{ℕ, zero, suc, _+_, _≤_, _<_}
+use Prim.Native.Nat.{ℕ, suc, _+_, _<_}
 use native.Mathlib.Omega.{arith}
-use lib.Dec.{ltb, eqb}
+use lib.Dec.{ltb}
 use lib.ListN.{length, getD}
-use borrow.Author.Tests.{eqb-true, eq-eqb, ltb-true, ltb-false, lt-ltb, le-ltb, not-true, not-false}
-use Rattle.common.specs.Bits.{Bytes, bit}
-use Rattle.common.specs.Lists.{countBelow}
+use borrow.Author.Tests.{eqb-true, eq-eqb, ltb-true, ltb-false, lt-ltb, le-ltb, not-true}
+use Rattle.common.specs.Bits.{Bytes}
 use Rattle.common.specs.Refusals.{Exactly}
-use Rattle.common.proofs.Laws.Booleans.{and-l, and-r, and-i, and-off, not-i, or-imp, imp-or, or-none-l, or-false}
+use Rattle.common.proofs.Laws.Booleans.{and-l, and-r, and-i, and-off, not-i, or-imp, imp-or}
 use Rattle.common.proofs.Laws.Choice.{cases}
-use Rattle.common.proofs.Laws.Lists.{split}
-use Rattle.common.proofs.Laws.Places.{Passing, some-passes, count-none, count-first}
+use Rattle.common.proofs.Laws.Places.{some-passes}
 use Rattle.state.specs.declared.State.{State}
-use Rattle.state.specs.declared.Planned.{Planned}
-use Rattle.state.specs.declared.Told.{Told}
 use Rattle.state.specs.State.{dataOf}
 use Rattle.state.specs.Soundness.{isSound}
 use Rattle.plan.specs.Refusals.{bytesNeeded}
-use Rattle.plan.specs.Update.{PlanUpdated, Plans}
 use Rattle.promises.specs.Promises.{wantsRise, isLocked, fittingRefusals}
 use Rattle.promises.proofs.Laws.Answered.{rises-exactly}
-use Rattle.promises.proofs.Laws.Unless.{unless-none}
 use Rattle.book.specs.Book.{isRead}
 use Rattle.book.specs.Refusals.{isSector}
 use Rattle.book.proofs.Laws.Read.{read-is}
-use Rattle.book.proofs.Laws.Refusals.{sector-exactly, sector-fits}
-use Rattle.names.specs.Records.{isName, namesOf, recordsBytes}
+use Rattle.book.proofs.Laws.Refusals.{sector-exactly}
+use Rattle.names.specs.Records.{namesOf, recordsBytes}
 use Rattle.names.specs.Search.{isOn}
 use Rattle.namelist.specs.Listed.{listed, isBad, namesIn, Good}
 use Rattle.namelist.specs.Twice.{isTwice}
 use Rattle.namelist.proofs.Laws.Listed.{good-exactly, listing-good}
 use Rattle.namelist.proofs.Laws.Twice.{twice-none, twice-first, twice-exactly}
-use Rattle.sectors.specs.Images.{sectorPart, wantedMark}
-use Rattle.sectors.specs.Moves.{isPast, movedNames, areTooLong, wantedMove, wantedBack, unlisted}
-use Rattle.sectors.proofs.Laws.Images.{sector-long, sector-bytes}
-use Rattle.sectors.proofs.Laws.There.{past-turn, past-end, past-some}
-use Rattle.sectors.proofs.Laws.Back.{unlisted-end, unlisted-on, unlisted-off, back-bytes}
-use Rattle.flags.specs.declared.Returned.{Returned}
-use Rattle.flags.specs.Refusals.{nameRefusals, nameRefusal, isFull, markRefusals, markRefusal, moveRefusals, moveRefusal, listRefusals, backRefusal}
-use Rattle.flags.specs.Answers.{isNameRead, nameTold, NameMarks, BookMoves, plannedOf, BookReturns}
-use Rattle.flags.proofs.Laws.Opened.{name-refusal-of}
-use Rattle.rules.specs.Conditions.{NotSound, size, WrongArray, NotAtRest, WantedRises, StatusLocked, BufferTooShort}
-use Rattle.rules.specs.Numbered.{_when_, Numbered}
+use Rattle.sectors.specs.Images.{sectorPart}
+use Rattle.sectors.specs.Moves.{isPast, movedNames, areTooLong}
+use Rattle.sectors.proofs.Laws.There.{past-clear, past-some}
+use Rattle.flags.specs.Refusals.{isFull}
+use Rattle.rules.specs.Conditions.{size, NotAtRest, WantedRises, StatusLocked, BufferTooShort}
+use Rattle.rules.specs.Numbered.{_when_}
 use Rattle.rules.specs.Book.{flag}
-use Rattle.rules.specs.FlagsWanted.{sectorBytes, Member, NamesAre, GoodList, recordsLength, MarkWants, pickedNames, MoveWants, BackWants}
-use Rattle.rules.specs.Flags.{
-  WrongSector,
-  BadName,
-  BadList,
-  ReadPast,
-  NameTwice,
-  MarkTooLong,
-  MoveTooLong,
-  WantedAnd,
-}
-use Rattle.rules.proofs.Laws.Tests.{means-equal, means-less, means-not, means-or}
-use Rattle.rules.proofs.Laws.Numbered.{AllMeant, row, numbered}
-use Rattle.rules.proofs.Laws.Conditions.{size-is, means-not-sound, means-wrong-array, means-not-at-rest, means-locked}
-use Rattle.rules.proofs.Laws.FlagsRead.{sector-part, means-name, means-member, means-no-member, sector-names-are, sector-names-only, list-exactly, list-names, records-measure}
-use Rattle.rules.proofs.Laws.FlagsPlans.{measure-more, mark-wants, mark-wants-only, moved-is, move-wants-it, move-wants-only, back-wants, back-wants-only}
+use Rattle.rules.specs.FlagsWanted.{sectorBytes, Member, recordsLength, pickedNames}
+use Rattle.rules.specs.FlagsCalls.{WrongSector, BadList, ReadPast, NameTwice, MarkTooLong, MoveTooLong, WantedAnd}
+use Rattle.rules.proofs.Laws.Tests.{means-less, means-not}
+use Rattle.rules.proofs.Laws.Numbered.{AllMeant, row}
+use Rattle.rules.proofs.Laws.Conditions.{size-is, means-not-at-rest, means-locked}
+use Rattle.rules.proofs.Laws.FlagsRead.{means-member, means-no-member, sector-names-are, sector-names-only, list-exactly, list-names, records-measure}
+use Rattle.rules.proofs.Laws.FlagsPlans.{measure-more, moved-is}
 
 -- ---- 15
 
@@ -79,13 +59,6 @@ means-bad-list list = record {
       cases (isBad (listed list)) (λ t. t)
       (λ f. absurd (never (namesIn (listed list)) (list-exactly list (namesIn (listed list)) .only-when (good-exactly list .when f))));
 }
-
--- a search by turns finds no read scene from one on
-nothing-past : (read : ℕ → Bool) (m n : ℕ) → 4096 ≤ n + m → ((i : ℕ) → n ≤ i → i < 4096 → read i ≡ false) → isPast read n ≡ false
-nothing-past read zero n h none = past-end read n (omega arith)
-nothing-past read (suc m) n h none =
-    ⊎-elim (λ l. past-turn read n l (none n (omega arith) l) ∙ nothing-past read m (n + 1) (omega arith) (λ i from below. none i (omega arith) below))
-    (λ l. past-end read n l) (split n 4096)
 
 module _ (array : List ℕ) (book : ℕ) (list : List ℕ) where
   abbrev count : ℕ
@@ -109,7 +82,7 @@ module _ (array : List ℕ) (book : ℕ) (list : List ℕ) where
         below = p .below;
         read = eqb-true (flag array book (p .place)) 0 (sym (read-is array book (p .place)) ∙ and-r (not (ltb (p .place) count)) (isRead array book (p .place)) (p .passes));
       })
-      (λ none. absurd (true≢false (sym e ∙ nothing-past (isRead array book) 4096 count (omega arith)
+      (λ none. absurd (true≢false (sym e ∙ past-clear (isRead array book) count
       (λ i from below. and-off (not (ltb i count)) (isRead array book i) (none i below) (not-i (ltb i count) (le-ltb i count from))))))
       (some-passes isBehind 4096)
 

@@ -4,7 +4,7 @@ use mathlib.Core.Path.{_≡_, refl, sym, ap, _∙_}
 use mathlib.Core.Bool.{true, false, cond}
 use mathlib.Core.List.{List, [], _∷_}
 use mathlib.Core.Logic.{⊎-elim}
-use Prim.Native.Nat.{ℕ, zero, suc, _+_, _*_, _≤_, _<_}
+use Prim.Native.Nat.{ℕ, zero, suc, _+_, _*_, _/_, _%_, _≤_, _<_}
 use native.Mathlib.Omega.{arith}
 use lib.ListN.{length, getD, replicate, length-replicate, getD-replicate}
 use borrow.Author.Tests.{eq-eqb, ne-eqb}
@@ -150,3 +150,11 @@ module _ (ns records : List (List ℕ)) where
   back-bytes =
       bytes-within (wantedBack records ns)
       (λ k h. ⊎-elim (λ l. omega (arith, back-front k l, back-book-bytes k)) (λ l. omega (arith, back-behind k l (omega (arith, h, back-long)))) (split k 512))
+
+  -- by the scene
+  pub back-bit : AllNames records → (scene : ℕ) → scene < 4096
+      → bitAt (getD (wantedBack records ns) (scene / 8) 0) (scene % 8) ≡ cond (isOn (getD ns scene []) records) 0 1
+  back-bit good scene h =
+      let is : scene / 8 * 8 + scene % 8 ≡ scene = omega arith in
+      ap (λ (x : ℕ). bitAt x (scene % 8)) (back-front (scene / 8) (omega arith)) ∙ back-flag good (scene / 8) (scene % 8) (omega arith) (omega arith)
+      ∙ ap (λ (k : ℕ). cond (isOn (getD ns k []) records) 0 1) is

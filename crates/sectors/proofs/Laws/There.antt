@@ -9,7 +9,7 @@ use native.Mathlib.Nat.{eq-or-lt-of-le}
 use native.Mathlib.Numerals.{add-one}
 use native.Mathlib.Omega.{arith}
 use lib.ListN.{length, getD}
-use Rattle.common.proofs.Laws.Booleans.{or-imp, or-none-l, or-none-r, imp-or}
+use Rattle.common.proofs.Laws.Booleans.{or-imp, or-none-l, or-none-r, imp-or, or-none-i}
 use Rattle.common.proofs.Laws.Choice.{cond-elim, cases}
 use Rattle.names.specs.Records.{AllNames}
 use Rattle.names.specs.Search.{sameBytes, isOn}
@@ -125,6 +125,16 @@ past-none read n e scene h l = any-none read n (4096 - n) e scene h (omega arith
 
 pub past-some : (read : ℕ → Bool) (n scene : ℕ) → n ≤ scene → scene < 4096 → read scene ≡ true → isPast read n ≡ true
 past-some read n scene h l e = cases (isPast read n) (λ t. t) (λ f. absurd (true≢false (sym e ∙ past-none read n f scene h l)))
+
+-- and where none is read none is found
+any-clear : (read : ℕ → Bool) (from n : ℕ) → ((s : ℕ) → from ≤ s → s < from + n → read s ≡ false) → anyRead read from n ≡ false
+unfolding anyRead
+any-clear read from zero none = refl
+any-clear read from (suc n) none =
+    or-none-i (none from (omega arith) (omega arith)) (any-clear read (suc from) n (λ s h l. none s (omega arith) (omega arith)))
+
+pub past-clear : (read : ℕ → Bool) (n : ℕ) → ((s : ℕ) → n ≤ s → s < 4096 → read s ≡ false) → isPast read n ≡ false
+past-clear read n none = any-clear read n (4096 - n) (λ s h l. none s h (omega arith))
 
 -- equal flags have equal read scenes
 any-cong : (f g : ℕ → Bool) (from n : ℕ) → ((s : ℕ) → from ≤ s → s < from + n → f s ≡ g s) → anyRead f from n ≡ anyRead g from n
