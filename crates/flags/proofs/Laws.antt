@@ -1,3 +1,2 @@
-pub mod Opened
 pub mod Answers
 pub mod Numbers

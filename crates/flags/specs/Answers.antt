@@ -16,7 +16,7 @@ use Rattle.names.specs.Search.{isOn}
 use Rattle.namelist.specs.Listed.{listed, namesIn}
 use Rattle.sectors.specs.Images.{sectorPart, wantedMark}
 use Rattle.sectors.specs.Moves.{wantedMove, wantedBack, unlisted}
-use Rattle.flags.specs.Refusals.{nameRefusal, markRefusal, moveRefusal, backRefusal}
+use Rattle.namechecks.specs.Refusals.{nameRefusal, markRefusal, moveRefusal, backRefusal}
 use Rattle.flags.specs.declared.Returned.{Returned}
 
 -- "A scene is read if a record has its name."

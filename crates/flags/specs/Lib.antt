@@ -1,3 +1,1 @@
-pub mod Refusals
-pub mod Opened
 pub mod Answers

@@ -1,9 +1,8 @@
 // Flags by name: records in a sector of their own, marked one by one or moved there from a position book, and the way back. It knows of the planner
 // what `promises` says, and nothing else.
-mod refusal; // 1, 2, 15, 6, 18 and 19
-
 use common::buffer::put;
 use common::refusals;
+use namechecks::refusal;
 use names::record::HEAD;
 use names::search::find;
 use sectors::image;

@@ -36,11 +36,11 @@ use Rattle.namelist.specs.Listed.{listed, namesIn}
 use Rattle.flags.specs.declared.Returned.{Returned}
 use Rattle.sectors.specs.Images.{sectorPart, isMissing, wantedNames, wantedMark}
 use Rattle.sectors.specs.Moves.{areTooLong, movedNames, wantedMove, wantedBack, unlisted}
-use Rattle.flags.specs.Refusals.{nameRefusals, nameRefusal, isFull, markRefusal, listRefusals, moveRefusal, backRefusal}
+use Rattle.namechecks.specs.Refusals.{nameRefusals, nameRefusal, isFull, markRefusal, listRefusals, moveRefusal, backRefusal}
 use Rattle.flags.specs.Answers.{isNameRead, nameTold, NameMarks, BookMoves, plannedOf, refusedReturn, returnedOf, BookReturns}
 use Rattle.sectors.proofs.Laws.Images.{wanted-first, wanted-second, mark-there, mark-appends}
 use Rattle.sectors.proofs.Laws.There.{move-wants}
-use Rattle.flags.proofs.Laws.Opened.{name-refusal-of, mark-refusal-of, move-refusal-of}
+use Rattle.namechecks.proofs.Laws.Opened.{name-refusal-of, mark-refusal-of, move-refusal-of}
 
 -- ---- a question
 

@@ -20,9 +20,9 @@ use Rattle.sectors.specs.Moves.{wantedMove, wantedBack}
 use Rattle.sectors.proofs.Laws.Images.{sector-long}
 use Rattle.sectors.proofs.Laws.Back.{back-long}
 use Rattle.flags.specs.declared.Returned.{Returned}
-use Rattle.flags.specs.Refusals.{markRefusals, markRefusal, moveRefusals, moveRefusal, listRefusals, backRefusal}
+use Rattle.namechecks.specs.Refusals.{markRefusals, markRefusal, moveRefusals, moveRefusal, listRefusals, backRefusal}
 use Rattle.flags.specs.Answers.{NameMarks, BookMoves, plannedOf, BookReturns}
-use Rattle.flags.proofs.Laws.Opened.{mark-refusal-of, move-refusal-of, back-refusal-of, mark-opened, marked-inside, move-opened, list-opened, book-fits, names-fit}
+use Rattle.namechecks.proofs.Laws.Opened.{mark-refusal-of, move-refusal-of, back-refusal-of, mark-opened, marked-inside, move-opened, list-opened, book-fits, names-fit}
 use Rattle.flags.proofs.Laws.Answers.{mark-want-long, move-want-long}
 
 -- ---- a marking

@@ -5,9 +5,9 @@ use Prim.Native.Nat.{_+_, _≤_}
 use native.Mathlib.Omega.{arith}
 use lib.ListN.{length}
 use borrow.Author.Needs.{needs}
-use Rattle.flags.specs.Refusals.{nameRefusal}
+use Rattle.namechecks.specs.Refusals.{nameRefusal}
 use Rattle.sectors.proofs.Laws.Images.{sector-sliced}
-use Rattle.flags.proofs.Laws.Opened.{name-refusal-of}
+use Rattle.namechecks.proofs.Laws.Opened.{name-refusal-of}
 use Rattle.flags.proofs.Laws.Answers.{name-refused, name-told, name-found, name-inside}
 use Rattle.flags.proofs.is_read.Statement.{statement}
 use Rattle.flags.proofs.is_read.Tie as tie

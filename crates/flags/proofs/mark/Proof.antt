@@ -11,9 +11,9 @@ use Rattle.names.specs.Records.{namesOf, recordsBytes}
 use Rattle.names.specs.Search.{isOn, Searched}
 use borrow.Author.Needs.{needs}
 use Rattle.sectors.specs.Images.{sectorPart, wantedMark}
-use Rattle.flags.specs.Refusals.{nameRefusal}
+use Rattle.namechecks.specs.Refusals.{nameRefusal}
 use Rattle.sectors.proofs.Laws.Images.{sector-sliced, sector-long}
-use Rattle.flags.proofs.Laws.Opened.{name-refusal-of}
+use Rattle.namechecks.proofs.Laws.Opened.{name-refusal-of}
 use Rattle.flags.proofs.Laws.Answers.{
   mark-own,
   name-inside,

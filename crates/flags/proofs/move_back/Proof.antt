@@ -13,11 +13,11 @@ use Rattle.names.proofs.Laws.Padded.{padded-long}
 use Rattle.namelist.specs.Listed.{listed, namesIn}
 use Rattle.sectors.specs.Images.{sectorPart}
 use Rattle.sectors.specs.Moves.{wantedBack, unlisted}
-use Rattle.flags.specs.Refusals.{listRefusals, backRefusal}
-use Rattle.flags.specs.Opened.{ListOpened}
+use Rattle.namechecks.specs.Refusals.{listRefusals, backRefusal}
+use Rattle.namechecks.specs.Opened.{ListOpened}
 use Rattle.sectors.proofs.Laws.Images.{sector-sliced, sector-long, laid-over}
 use Rattle.sectors.proofs.Laws.Back.{blank-bytes, backBook, back-book-long, back-is}
-use Rattle.flags.proofs.Laws.Opened.{back-refusal-of, list-opened, names-fit}
+use Rattle.namechecks.proofs.Laws.Opened.{back-refusal-of, list-opened, names-fit}
 use Rattle.flags.proofs.Laws.Answers.{returns-refused, returns-planned}
 use Rattle.flags.proofs.move_back.Statement.{statement}
 use Rattle.flags.proofs.move_back.Tie as tie

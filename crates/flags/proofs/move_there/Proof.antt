@@ -14,10 +14,10 @@ use Rattle.book.specs.Book.{isRead}
 use Rattle.sectors.specs.Images.{sectorPart}
 use Rattle.sectors.specs.Moves.{wantedMove}
 use Rattle.sectors.specs.Moves.{areTooLong, movedNames}
-use Rattle.flags.specs.Refusals.{listRefusals}
-use Rattle.flags.specs.Opened.{ListOpened}
+use Rattle.namechecks.specs.Refusals.{listRefusals}
+use Rattle.namechecks.specs.Opened.{ListOpened}
 use Rattle.sectors.proofs.Laws.Images.{sector-sliced, sector-long}
-use Rattle.flags.proofs.Laws.Opened.{list-opened, book-fits, names-fit}
+use Rattle.namechecks.proofs.Laws.Opened.{list-opened, book-fits, names-fit}
 use Rattle.flags.proofs.Laws.Answers.{move-own, move-full, move-none, move-want-long, moves-refused, moves-planned}
 use Rattle.flags.proofs.move_there.Statement.{statement}
 use Rattle.flags.proofs.move_there.Tie as tie

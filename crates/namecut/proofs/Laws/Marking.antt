@@ -19,8 +19,8 @@ use Rattle.names.specs.Search.{isOn}
 use Rattle.names.proofs.Laws.Names.{names-split}
 use Rattle.names.proofs.Laws.Search.{same-refl, on-first, on-append}
 use Rattle.sectors.specs.Images.{sectorPart, wantedNames, wantedMark}
-use Rattle.flags.specs.Refusals.{isFull, markRefusal}
-use Rattle.flags.specs.Opened.{MarkOpened}
+use Rattle.namechecks.specs.Refusals.{isFull, markRefusal}
+use Rattle.namechecks.specs.Opened.{MarkOpened}
 use Rattle.flags.specs.Answers.{isNameRead, NameMarks}
 use Rattle.namecut.specs.Leaves.{sectorNames, BesideSector, BehindMark, isFirstMark, MarkLeaves, MarkGoesOn}
 use Rattle.sectors.proofs.Laws.Images.{sector-long, sector-at, sector-bytes, wanted-first, mark-there, mark-appends}
@@ -28,7 +28,7 @@ use Rattle.namecut.proofs.Laws.Between.{stays}
 use Rattle.namecut.proofs.Laws.Grown.{Appending, Grown, first-after}
 use Rattle.namecut.proofs.Laws.Again.{wanted-bytes}
 use Rattle.flags.proofs.Laws.Answers.{room-left, mark-want-long, records-front}
-use Rattle.flags.proofs.Laws.Opened.{mark-opened, mark-opened-exactly, marked-inside}
+use Rattle.namechecks.proofs.Laws.Opened.{mark-opened, mark-opened-exactly, marked-inside}
 use Rattle.namecut.proofs.Laws.Appended.{kept, answered, sector-between, sector-beside, fits-behind, appended, appended-falls}
 
 -- ---- names

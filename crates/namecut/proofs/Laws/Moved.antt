@@ -29,8 +29,8 @@ use Rattle.namelist.specs.Listed.{listed, namesIn}
 use Rattle.sectors.specs.Images.{sectorPart, secondImage, isMissing, wantedNames}
 use Rattle.sectors.specs.Moves.{wantedMove}
 use Rattle.sectors.specs.Moves.{movedNames}
-use Rattle.flags.specs.Refusals.{moveRefusal}
-use Rattle.flags.specs.Opened.{MoveOpened}
+use Rattle.namechecks.specs.Refusals.{moveRefusal}
+use Rattle.namechecks.specs.Opened.{MoveOpened}
 use Rattle.flags.specs.Answers.{BookMoves}
 use Rattle.namecut.specs.Leaves.{sectorNames, BesideSector, MoveFinished, BehindMove, isFirstMove, MoveLeaves}
 use Rattle.sectors.proofs.Laws.Images.{sector-long, sector-at, wanted-first, wanted-second}
@@ -38,7 +38,7 @@ use Rattle.sectors.proofs.Laws.There.{read-names-good, read-names-cong, move-wa
 use Rattle.namecut.proofs.Laws.Between.{finished-sector}
 use Rattle.namecut.proofs.Laws.Grown.{Appending, Grown, first-after}
 use Rattle.namecut.proofs.Laws.Again.{wanted-long, wanted-bytes, wanted-whole}
-use Rattle.flags.proofs.Laws.Opened.{move-opened, names-fit}
+use Rattle.namechecks.proofs.Laws.Opened.{move-opened, names-fit}
 use Rattle.namecut.proofs.Laws.Appended.{kept, answered, fits-behind, appended, appended-between, appended-beside}
 
 -- ---- two sectors

@@ -25,15 +25,15 @@ use Rattle.flags.specs.declared.Returned.{Returned}
 use Rattle.sectors.specs.Images.{sectorPart}
 use Rattle.sectors.specs.Moves.{readNames, wantedBack, unlisted}
 use Rattle.sectors.specs.Moves.{movedNames}
-use Rattle.flags.specs.Refusals.{backRefusal}
-use Rattle.flags.specs.Opened.{ListOpened}
+use Rattle.namechecks.specs.Refusals.{backRefusal}
+use Rattle.namechecks.specs.Opened.{ListOpened}
 use Rattle.flags.specs.Answers.{isNameRead, BookMoves, plannedOf, BookReturns}
 use Rattle.namecut.specs.Leaves.{sectorNames, BesideSector, MoveFinished, BackFinished, BackLost, BehindBack, BackLeaves}
 use Rattle.sectors.proofs.Laws.Images.{sector-at}
 use Rattle.sectors.proofs.Laws.There.{read-names-on, read-exactly, past-none}
 use Rattle.sectors.proofs.Laws.Back.{nothing-on, unlisted-none, back-long, back-bytes, back-bit}
 use Rattle.namecut.proofs.Laws.Between.{Between, updated-sector}
-use Rattle.flags.proofs.Laws.Opened.{back-refusal-of, list-opened, book-fits, names-fit}
+use Rattle.namechecks.proofs.Laws.Opened.{back-refusal-of, list-opened, book-fits, names-fit}
 use Rattle.namecut.proofs.Laws.Appended.{kept, sector-between, sector-beside, fits-behind}
 use Rattle.namecut.proofs.Laws.Marking.{is-read-is}
 use Rattle.namecut.proofs.Laws.Moved.{opened, moved-names}

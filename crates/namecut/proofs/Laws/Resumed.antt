@@ -20,12 +20,12 @@ use Rattle.sectors.specs.Moves.{areTooLong, movedNames, wantedMove, wantedBack}
 use Rattle.sectors.proofs.Laws.Images.{sector-at, sector-is, sector-long}
 use Rattle.sectors.proofs.Laws.There.{past-cong, move-wants}
 use Rattle.flags.specs.declared.Returned.{Returned}
-use Rattle.flags.specs.Refusals.{moveRefusal, backRefusal}
-use Rattle.flags.specs.Opened.{ListOpened, MoveOpened}
+use Rattle.namechecks.specs.Refusals.{moveRefusal, backRefusal}
+use Rattle.namechecks.specs.Opened.{ListOpened, MoveOpened}
 use Rattle.flags.specs.Answers.{BookMoves, plannedOf, BookReturns}
 use Rattle.namecut.specs.Leaves.{sectorNames, BehindMove, MoveGoesOn, BackLost, BackGoesOn}
 use Rattle.namecut.proofs.Laws.Again.{wanted-long, wanted-bytes}
-use Rattle.flags.proofs.Laws.Opened.{move-open, back-refusal-of, list-open, names-fit}
+use Rattle.namechecks.proofs.Laws.Opened.{move-open, back-refusal-of, list-open, names-fit}
 use Rattle.namecut.proofs.Laws.Appended.{appended-falls}
 use Rattle.namecut.proofs.Laws.Moved.{sectors-apart, opened, inside, appending-to, appending, wanted-is, plans, move-ready, book-stays, moved-same}
 use Rattle.namecut.proofs.Laws.Restored.{back-opened, back-kept, back-beside, back-completed, names-inside}

@@ -22,8 +22,8 @@ use Rattle.names.proofs.Laws.Padded.{padded-long, padded-names, padded-front, p
 use Rattle.sectors.specs.Images.{sectorPart, isMissing, wantedNames, wantedMark}
 use Rattle.sectors.proofs.Laws.Images.{sector-at, wanted-first, wanted-second, mark-there, mark-appends}
 use Rattle.flags.specs.Answers.{NameMarks}
-use Rattle.flags.specs.Refusals.{markRefusal}
-use Rattle.flags.proofs.Laws.Opened.{mark-opened, marked-inside}
+use Rattle.namechecks.specs.Refusals.{markRefusal}
+use Rattle.namechecks.proofs.Laws.Opened.{mark-opened, marked-inside}
 use Rattle.flags.proofs.Laws.Numbers.{mark-fitting}
 
 -- ---- "rooftop"

@@ -44,7 +44,7 @@ use Rattle.namelist.specs.Listed.{listed, namesIn}
 use Rattle.sectors.specs.Images.{sectorPart, wantedMark}
 use Rattle.sectors.specs.Moves.{wantedMove, wantedBack, unlisted}
 use Rattle.flags.specs.declared.Returned.{Returned}
-use Rattle.flags.specs.Refusals.{markRefusal, moveRefusal, backRefusal}
+use Rattle.namechecks.specs.Refusals.{markRefusal, moveRefusal, backRefusal}
 use Rattle.flags.specs.Answers.{nameTold, refusedReturn, returnedOf, BookReturns}
 use Rattle.flags.proofs.Laws.Answers.{returns-refused, returns-planned, returns-determined}
 use Rattle.salvage.specs.declared.Salvaged.{Salvaged}

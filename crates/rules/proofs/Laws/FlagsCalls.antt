@@ -25,10 +25,10 @@ use Rattle.names.specs.Records.{isName, namesOf}
 use Rattle.names.specs.Search.{isOn}
 use Rattle.sectors.specs.Images.{sectorPart, wantedMark}
 use Rattle.sectors.proofs.Laws.Images.{sector-long, sector-bytes}
-use Rattle.flags.specs.Refusals.{nameRefusals, nameRefusal, isFull, markRefusals, markRefusal}
-use Rattle.flags.specs.Opened.{MarkOpened}
+use Rattle.namechecks.specs.Refusals.{nameRefusals, nameRefusal, isFull, markRefusals, markRefusal}
+use Rattle.namechecks.specs.Opened.{MarkOpened}
 use Rattle.flags.specs.Answers.{nameTold, NameMarks}
-use Rattle.flags.proofs.Laws.Opened.{name-refusal-of, mark-opened, marked-inside}
+use Rattle.namechecks.proofs.Laws.Opened.{name-refusal-of, mark-opened, marked-inside}
 use Rattle.flags.proofs.Laws.Answers.{name-refused, name-told, name-state, name-marks-untouched, name-marks-state}
 use Rattle.namecut.proofs.Laws.Marking.{is-read-is, mark-bytes}
 use Rattle.flags.proofs.Laws.Numbers.{mark-number}

@@ -22,7 +22,7 @@ use Rattle.names.specs.Search.{isOn}
 use Rattle.names.proofs.Laws.Walk.{records-one}
 use Rattle.sectors.specs.Images.{sectorPart, wantedMark}
 use Rattle.sectors.proofs.Laws.Images.{sector-long, sector-at, mark-there}
-use Rattle.flags.specs.Refusals.{markRefusal}
+use Rattle.namechecks.specs.Refusals.{markRefusal}
 use Rattle.namecut.specs.Leaves.{isFirstMark, MarkLeaves, NameAdded}
 use Rattle.namecut.proofs.Laws.Marking.{is-read-is, opened, inside, mark-leaves, mark-goes-on, want-long, on-last, mark-answered}
 use Rattle.namecut.proofs.Laws.Added.{mark-adds, mark-done}

@@ -34,11 +34,11 @@ use Rattle.sectors.proofs.Laws.Images.{sector-long}
 use Rattle.sectors.proofs.Laws.There.{read-names-good, move-wants}
 use Rattle.sectors.proofs.Laws.Back.{unlisted-end, unlisted-on, unlisted-off, back-bytes}
 use Rattle.flags.specs.declared.Returned.{Returned}
-use Rattle.flags.specs.Refusals.{moveRefusals, moveRefusal, listRefusals, backRefusal}
-use Rattle.flags.specs.Opened.{ListOpened, MoveOpened}
+use Rattle.namechecks.specs.Refusals.{moveRefusals, moveRefusal, listRefusals, backRefusal}
+use Rattle.namechecks.specs.Opened.{ListOpened, MoveOpened}
 use Rattle.flags.specs.Answers.{BookMoves, plannedOf, BookReturns}
 use Rattle.namecut.proofs.Laws.Again.{wanted-bytes}
-use Rattle.flags.proofs.Laws.Opened.{back-refusal-of, list-opened, names-fit, move-opened}
+use Rattle.namechecks.proofs.Laws.Opened.{back-refusal-of, list-opened, names-fit, move-opened}
 use Rattle.flags.proofs.Laws.Answers.{moves-untouched, moves-state, returns-untouched, returns-state}
 use Rattle.flags.proofs.Laws.Numbers.{move-number, back-number}
 use Rattle.rules.specs.FlagsWanted.{MoveWants, BackWants}

@@ -23,12 +23,12 @@ use Rattle.sectors.specs.Moves.{movedNames, wantedMove, wantedBack}
 use Rattle.sectors.proofs.Laws.Images.{sector-long}
 use Rattle.sectors.proofs.Laws.Back.{back-long}
 use Rattle.flags.specs.declared.Returned.{Returned}
-use Rattle.flags.specs.Refusals.{moveRefusal, backRefusal}
-use Rattle.flags.specs.Opened.{MoveOpened}
+use Rattle.namechecks.specs.Refusals.{moveRefusal, backRefusal}
+use Rattle.namechecks.specs.Opened.{MoveOpened}
 use Rattle.flags.specs.Answers.{isNameRead, BookReturns}
 use Rattle.namecut.specs.Leaves.{isFirstMove, MoveLeaves}
 use Rattle.flags.proofs.Laws.Answers.{move-want-long}
-use Rattle.flags.proofs.Laws.Opened.{book-fits}
+use Rattle.namechecks.proofs.Laws.Opened.{book-fits}
 use Rattle.namecut.proofs.Laws.Marking.{is-read-is}
 use Rattle.namecut.proofs.Laws.Moved.{opened, inside, new-good, move-leaves, book-stays, moved-sector, moved-names, moved-flags}
 use Rattle.namecut.proofs.Laws.Restored.{back-opened, back-leaves}

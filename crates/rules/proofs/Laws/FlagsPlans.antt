@@ -28,7 +28,7 @@ use Rattle.sectors.specs.Moves.{readNames, movedNames, areTooLong, wantedMove, 
 use Rattle.sectors.proofs.Laws.Images.{mark-there, mark-appends}
 use Rattle.sectors.proofs.Laws.There.{read-names-none, read-names-first, read-names-later, read-names-good, move-wants}
 use Rattle.sectors.proofs.Laws.Back.{nothing-on, back-long, back-behind, back-bytes, back-bit}
-use Rattle.flags.specs.Refusals.{isFull}
+use Rattle.namechecks.specs.Refusals.{isFull}
 use Rattle.rules.specs.Book.{flag}
 use Rattle.rules.specs.FlagsWanted.{sectorBytes, Member, recordsLength, Wants, MarkWants, pickedNames, MoveWants, BackWants}
 use Rattle.rules.proofs.Laws.FlagsRead.{sector-part, means-member, means-no-member, names-are, sector-names-are, names-only, list-exactly, list-only, records-measure}

@@ -33,7 +33,7 @@ use Rattle.namelist.proofs.Laws.Twice.{twice-none, twice-first, twice-exactly}
 use Rattle.sectors.specs.Images.{sectorPart}
 use Rattle.sectors.specs.Moves.{isPast, movedNames, areTooLong}
 use Rattle.sectors.proofs.Laws.There.{past-clear, past-some}
-use Rattle.flags.specs.Refusals.{isFull}
+use Rattle.namechecks.specs.Refusals.{isFull}
 use Rattle.rules.specs.Conditions.{size, NotAtRest, WantedRises, StatusLocked, BufferTooShort}
 use Rattle.rules.specs.Numbered.{_when_}
 use Rattle.rules.specs.Book.{flag}

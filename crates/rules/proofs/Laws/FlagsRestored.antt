@@ -15,7 +15,7 @@ use Rattle.names.specs.Records.{namesOf}
 use Rattle.names.specs.Search.{isOn}
 use Rattle.namelist.specs.Listed.{listed, namesIn}
 use Rattle.sectors.specs.Images.{sectorPart, wantedMark}
-use Rattle.flags.specs.Refusals.{markRefusal}
+use Rattle.namechecks.specs.Refusals.{markRefusal}
 use Rattle.flags.specs.Answers.{isNameRead}
 use Rattle.namecut.specs.Leaves.{History, begins, marks, moves, aside}
 use Rattle.namecut.proofs.Laws.Marking.{is-read-is}

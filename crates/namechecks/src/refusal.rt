@@ -8,7 +8,7 @@ ghost use lib.ListN.{length};
 ghost use Rattle.common.specs.Refusals.{firstOf};
 ghost use Rattle.book.specs.Book.{isRead};
 ghost use Rattle.sectors.specs.Moves.{isPast};
-ghost use Rattle.flags.specs.Refusals.{nameRefusals, listRefusals};
+ghost use Rattle.namechecks.specs.Refusals.{nameRefusals, listRefusals};
 
 const MOST_NAMES: usize = 4096;
 

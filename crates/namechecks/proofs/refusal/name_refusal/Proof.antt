@@ -1,4 +1,4 @@
--- `flags::refusal::name_refusal` meets its contract: the book's own refusals come first, and then the name's.
+-- `namechecks::refusal::name_refusal` meets its contract: the book's own refusals come first, and then the name's.
 -- Assumes nothing.
 use mathlib.Core.Path.{_≡_, refl, sym, _∙_}
 use mathlib.Core.Bool.{Bool, false, not}
@@ -11,8 +11,8 @@ use Rattle.common.proofs.Laws.Refusals.{clear, first-before, first-behind}
 use Rattle.book.specs.Refusals.{bookRefusals}
 use Rattle.names.specs.Records.{isName}
 use borrow.Author.Needs.{needs}
-use Rattle.flags.proofs.refusal.name_refusal.Statement.{statement}
-use Rattle.flags.proofs.refusal.name_refusal.Tie as tie
+use Rattle.namechecks.proofs.refusal.name_refusal.Statement.{statement}
+use Rattle.namechecks.proofs.refusal.name_refusal.Tie as tie
 
 -- the book's own, and what comes behind them
 abbrev own : tie.Start → List (ℕ × Bool)

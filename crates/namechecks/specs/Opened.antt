@@ -15,7 +15,7 @@ use Rattle.namelist.specs.Twice.{isTwice}
 use Rattle.sectors.specs.Images.{sectorPart}
 use Rattle.sectors.specs.Moves.{isPast}
 use Rattle.sectors.specs.Moves.{areTooLong, movedNames}
-use Rattle.flags.specs.Refusals.{isFull}
+use Rattle.namechecks.specs.Refusals.{isFull}
 
 pub record MarkOpened (s : State) (array : List ℕ) (sector : ℕ) (name : List ℕ) : Type 0 where
   pub sound : isSound s ≡ true

@@ -20,8 +20,8 @@ use Rattle.names.specs.Records.{isName}
 use Rattle.namelist.specs.Listed.{listed, isBad, namesIn}
 use Rattle.namelist.proofs.Laws.Listed.{good-exactly}
 use Rattle.sectors.specs.Moves.{areTooLong, movedNames, isPast}
-use Rattle.flags.specs.Refusals.{nameRefusals, nameRefusal, markRefusals, markRefusal, listRefusals, moveRefusals, moveRefusal, backRefusal}
-use Rattle.flags.specs.Opened.{MarkOpened, ListOpened, MoveOpened}
+use Rattle.namechecks.specs.Refusals.{nameRefusals, nameRefusal, markRefusals, markRefusal, listRefusals, moveRefusals, moveRefusal, backRefusal}
+use Rattle.namechecks.specs.Opened.{MarkOpened, ListOpened, MoveOpened}
 
 -- ---- of each call, in order
 

@@ -1,4 +1,4 @@
--- `flags::refusal::list_refusal` meets its contract: the book's own refusals come first, and then those about the sector and the list.
+-- `namechecks::refusal::list_refusal` meets its contract: the book's own refusals come first, and then those about the sector and the list.
 -- Assumes nothing.
 use mathlib.Core.Path.{_≡_, refl, sym, ap, _∙_}
 use mathlib.Core.Bool.{Bool, true, false, not, _&&_, _||_}
@@ -22,8 +22,8 @@ use Rattle.namelist.specs.Listed.{listed, isBad, namesIn, countIn, Good}
 use Rattle.namelist.specs.Twice.{isTwice}
 use Rattle.namelist.proofs.Laws.Listed.{good-count, counted-good, bad-count, good-exactly}
 use Rattle.sectors.specs.Moves.{isPast}
-use Rattle.flags.proofs.refusal.list_refusal.Statement.{statement}
-use Rattle.flags.proofs.refusal.list_refusal.Tie as tie
+use Rattle.namechecks.proofs.refusal.list_refusal.Statement.{statement}
+use Rattle.namechecks.proofs.refusal.list_refusal.Tie as tie
 
 -- the book's own, and what comes behind them
 abbrev own : tie.Start → List (ℕ × Bool)

@@ -1,4 +1,4 @@
--- `flags::refusal::is_past` meets its contract: no scene from `names` up to this one is read.
+-- `namechecks::refusal::is_past` meets its contract: no scene from `names` up to this one is read.
 -- Assumes nothing.
 use mathlib.Core.Path.{_≡_, refl, sym, _∙_}
 use Prim.Native.Nat.{_-_, _≤_}
@@ -7,8 +7,8 @@ use borrow.Author.Needs.{needs}
 use Rattle.book.specs.Book.{isRead}
 use Rattle.sectors.specs.Moves.{isPast}
 use Rattle.sectors.proofs.Laws.There.{past-found, past-turn, past-end}
-use Rattle.flags.proofs.refusal.is_past.Statement.{statement}
-use Rattle.flags.proofs.refusal.is_past.Tie as tie
+use Rattle.namechecks.proofs.refusal.is_past.Statement.{statement}
+use Rattle.namechecks.proofs.refusal.is_past.Tie as tie
 
 abbrev Inv-loop : tie.InvT-loop
 Inv-loop array book names scene₀ scene = (scene ≤ 4096) × (isPast (isRead array book) scene ≡ isPast (isRead array book) names)

@@ -1,0 +1,2 @@
+// The refusals of the calls about names, by what they are given.
+pub mod refusal;
