@@ -1,6 +1,7 @@
 // The refusals of the calls about names, in the order checked.
 use common::refusals;
 use namelist::list;
+use namelist::list::MOST_NAMES;
 use state::State;
 ghost use mathlib.Core.Path.{_≡_};
 ghost use Prim.Native.Nat.{_+_, _≤_};
@@ -9,8 +10,6 @@ ghost use Rattle.common.specs.Refusals.{firstOf};
 ghost use Rattle.book.specs.Book.{isRead};
 ghost use Rattle.sectors.specs.Moves.{isPast};
 ghost use Rattle.namechecks.specs.Refusals.{nameRefusals, listRefusals};
-
-const MOST_NAMES: usize = 4096;
 
 // Of a call about one name: 1, 2, 15, 18; `size` is the array's length, and 0 means none.
 pub fn name_refusal(s: State, size: usize, sector: usize, name: &[u8]) -> u32

@@ -1,4 +1,4 @@
--- What the parts of a move promise, of the sector that they build.
+-- What the parts of a move promise (02, A7), of the sector that they build.
 use mathlib.Core.Path.{_≡_}
 use mathlib.Core.Bool.{Bool, false, not}
 use mathlib.Core.List.{List}

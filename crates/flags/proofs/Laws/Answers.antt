@@ -62,11 +62,16 @@ module _ (s : State) (array : List ℕ) (sector : ℕ) (name : List ℕ) where
   pub name-determined : (r₁ r₂ : Told) → r₁ ≡ nameTold s array sector name → r₂ ≡ nameTold s array sector name → r₁ ≡ r₂
   name-determined r₁ r₂ p q = p ∙ sym q
 
--- as a search in the sector tells it
+-- a record of the sector has the name,
+pub is-read-is : (array : List ℕ) (sector : ℕ) (name : List ℕ) → isNameRead array sector name ≡ isOn name (namesOf (sectorPart array sector))
+unfolding isNameRead
+is-read-is array sector name = refl
+
+-- as a search in it tells
 pub name-found : (array : List ℕ) (sector : ℕ) (name image : List ℕ) (r : Search) → image ≡ sectorPart array sector → Searched image name r
     → r .found ≡ isNameRead array sector name
-unfolding isNameRead
-name-found array sector name image r is searched = searched .found-is ∙ ap (λ (l : List ℕ). isOn name (namesOf l)) is
+name-found array sector name image r is searched =
+    searched .found-is ∙ ap (λ (l : List ℕ). isOn name (namesOf l)) is ∙ sym (is-read-is array sector name)
 
 -- ---- the refusals about one name, and behind them a marking's
 

@@ -25,7 +25,8 @@ use Rattle.sectors.proofs.Laws.Images.{sector-at, sector-long, wanted-second, m
 use Rattle.namecut.proofs.Laws.Between.{finished-sector}
 use Rattle.namecut.proofs.Laws.Grown.{Appending}
 use Rattle.namecut.proofs.Laws.Again.{wanted-whole}
-use Rattle.namecut.proofs.Laws.Marking.{is-read-is, on-last, inside, want-long, mark-kept, appending, mark-answered, names-first, mark-beside}
+use Rattle.flags.proofs.Laws.Answers.{is-read-is}
+use Rattle.namecut.proofs.Laws.Marking.{on-last, inside, want-long, mark-kept, appending, mark-answered, names-first, mark-beside}
 
 -- one behind the other
 beside-beside : {sector : ℕ} {first second third : List ℕ} → BesideSector sector first second → BesideSector sector second third → BesideSector sector first third

@@ -17,8 +17,9 @@ use Rattle.names.specs.Records.{AllNames, recordsBytes}
 use Rattle.names.proofs.Laws.Walk.{records-long, records-agree}
 use Rattle.sectors.specs.Images.{firstImage, secondImage, isMissing, wantedNames}
 use Rattle.sectors.proofs.Laws.Images.{Stands, stands-exactly, wanted-first, wanted-second}
+use Rattle.flags.proofs.Laws.Answers.{names-want-long}
 use Rattle.namecut.proofs.Laws.Between.{Between, erased-bit, erased-after, still-falls}
-use Rattle.namecut.proofs.Laws.Grown.{image-long, image-there, image-new, image-behind, image-bytes, records-bytes, Appending, stands-after}
+use Rattle.namecut.proofs.Laws.Grown.{image-there, image-new, image-behind, image-bytes, records-bytes, Appending, stands-after}
 
 -- ---- the two images
 
@@ -32,12 +33,6 @@ module _ (old new : List (List ℕ)) (good-old : AllNames old) (good-new : AllNa
 
   room-false : n + length (recordsBytes false new) ≤ 4096
   room-false = omega (arith, room, records-long true false new)
-
-  pub first-long : length (firstImage there new) ≡ 4096
-  first-long = image-long there (recordsBytes false new) room-false
-
-  pub second-long : length (secondImage there new) ≡ 4096
-  second-long = image-long there (recordsBytes true new) room
 
   pub first-bytes : Bytes (firstImage there new)
   first-bytes = image-bytes there (recordsBytes false new) room-false (records-bytes true old good-old) (records-bytes false new good-new)
@@ -84,9 +79,7 @@ module _ (image : List ℕ) (old new : List (List ℕ)) (a : Appending image old
   lacking = isMissing (recordsBytes false new) (drop (length (recordsBytes true old)) image)
 
   pub wanted-long : length wanted ≡ 4096
-  wanted-long =
-      cases lacking (λ t. ap length (wanted-first image (recordsBytes true old) new t) ∙ first-long old new (a .good-old) (a .good-new) (a .room))
-      (λ f. ap length (wanted-second image (recordsBytes true old) new f) ∙ second-long old new (a .good-old) (a .good-new) (a .room))
+  wanted-long = names-want-long image (recordsBytes true old) new (a .room)
 
   pub wanted-bytes : Bytes wanted
   wanted-bytes =

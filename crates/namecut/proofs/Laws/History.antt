@@ -13,7 +13,8 @@ use Rattle.names.specs.Records.{namesOf}
 use Rattle.names.specs.Search.{isOn}
 use Rattle.names.proofs.Laws.Search.{on-append}
 use Rattle.namecut.specs.Leaves.{sectorNames, History, begins, marks, moves, aside, OnlyAskedNames}
-use Rattle.namecut.proofs.Laws.Marking.{is-read-is, on-begins, mark-leaves, mark-stay, mark-kept}
+use Rattle.flags.proofs.Laws.Answers.{is-read-is}
+use Rattle.namecut.proofs.Laws.Marking.{on-begins, mark-leaves, mark-stay, mark-kept}
 use Rattle.namecut.proofs.Laws.Moved.{move-leaves, move-ready}
 
 -- what is so along it

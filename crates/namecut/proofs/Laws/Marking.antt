@@ -21,21 +21,17 @@ use Rattle.names.proofs.Laws.Search.{same-refl, on-first, on-append}
 use Rattle.sectors.specs.Images.{sectorPart, wantedNames, wantedMark}
 use Rattle.namechecks.specs.Refusals.{isFull, markRefusal}
 use Rattle.namechecks.specs.Opened.{MarkOpened}
-use Rattle.flags.specs.Answers.{isNameRead, NameMarks}
-use Rattle.namecut.specs.Leaves.{sectorNames, BesideSector, BehindMark, isFirstMark, MarkLeaves, MarkGoesOn}
+use Rattle.flags.specs.Answers.{NameMarks}
+use Rattle.namecut.specs.Leaves.{BesideSector, BehindMark, isFirstMark, MarkLeaves, MarkGoesOn}
 use Rattle.sectors.proofs.Laws.Images.{sector-long, sector-at, sector-bytes, wanted-first, mark-there, mark-appends}
 use Rattle.namecut.proofs.Laws.Between.{stays}
 use Rattle.namecut.proofs.Laws.Grown.{Appending, Grown, first-after}
 use Rattle.namecut.proofs.Laws.Again.{wanted-bytes}
-use Rattle.flags.proofs.Laws.Answers.{room-left, mark-want-long, records-front}
+use Rattle.flags.proofs.Laws.Answers.{is-read-is, room-left, mark-want-long, records-front}
 use Rattle.namechecks.proofs.Laws.Opened.{mark-opened, mark-opened-exactly, marked-inside}
 use Rattle.namecut.proofs.Laws.Appended.{kept, answered, sector-between, sector-beside, fits-behind, appended, appended-falls}
 
 -- ---- names
-
-pub is-read-is : (array : List ℕ) (sector : ℕ) (name : List ℕ) → isNameRead array sector name ≡ isOn name (sectorNames array sector)
-unfolding isNameRead
-is-read-is array sector name = refl
 
 -- one of some that begin others
 pub on-begins : (name : List ℕ) {some all : List (List ℕ)} → Begins some all → isOn name some ≡ true → isOn name all ≡ true

@@ -35,7 +35,7 @@ use Rattle.sectors.proofs.Laws.Back.{nothing-on, unlisted-none, back-long, back
 use Rattle.namecut.proofs.Laws.Between.{Between, updated-sector}
 use Rattle.namechecks.proofs.Laws.Opened.{back-refusal-of, list-opened, book-fits, names-fit}
 use Rattle.namecut.proofs.Laws.Appended.{kept, sector-between, sector-beside, fits-behind}
-use Rattle.namecut.proofs.Laws.Marking.{is-read-is}
+use Rattle.flags.proofs.Laws.Answers.{is-read-is}
 use Rattle.namecut.proofs.Laws.Moved.{opened, moved-names}
 
 -- ---- what is wanted of the book, by the scene

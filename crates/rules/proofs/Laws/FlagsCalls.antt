@@ -29,8 +29,8 @@ use Rattle.namechecks.specs.Refusals.{nameRefusals, nameRefusal, isFull, markRe
 use Rattle.namechecks.specs.Opened.{MarkOpened}
 use Rattle.flags.specs.Answers.{nameTold, NameMarks}
 use Rattle.namechecks.proofs.Laws.Opened.{name-refusal-of, mark-opened, marked-inside}
-use Rattle.flags.proofs.Laws.Answers.{name-refused, name-told, name-state, name-marks-untouched, name-marks-state}
-use Rattle.namecut.proofs.Laws.Marking.{is-read-is, mark-bytes}
+use Rattle.flags.proofs.Laws.Answers.{is-read-is, name-refused, name-told, name-state, name-marks-untouched, name-marks-state}
+use Rattle.namecut.proofs.Laws.Marking.{mark-bytes}
 use Rattle.flags.proofs.Laws.Numbers.{mark-number}
 use Rattle.rules.specs.FlagsWanted.{sectorBytes, MarkWants}
 use Rattle.rules.specs.FlagsCalls.{NameReadCall, NameMarkCall}

@@ -24,7 +24,8 @@ use Rattle.sectors.specs.Images.{sectorPart, wantedMark}
 use Rattle.sectors.proofs.Laws.Images.{sector-long, sector-at, mark-there}
 use Rattle.namechecks.specs.Refusals.{markRefusal}
 use Rattle.namecut.specs.Leaves.{isFirstMark, MarkLeaves, NameAdded}
-use Rattle.namecut.proofs.Laws.Marking.{is-read-is, opened, inside, mark-leaves, mark-goes-on, want-long, on-last, mark-answered}
+use Rattle.flags.proofs.Laws.Answers.{is-read-is}
+use Rattle.namecut.proofs.Laws.Marking.{opened, inside, mark-leaves, mark-goes-on, want-long, on-last, mark-answered}
 use Rattle.namecut.proofs.Laws.Added.{mark-adds, mark-done}
 use Rattle.rules.specs.FlagsWanted.{sectorBytes, Member, NamesAre, recordsLength, Laid, Whole, MarkWants}
 use Rattle.rules.specs.FlagsLeft.{Marking, MarkSent, MarkBehind, MarkLeft, MarkAgain, MarkAdded}

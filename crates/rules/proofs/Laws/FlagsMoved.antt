@@ -27,9 +27,8 @@ use Rattle.namechecks.specs.Refusals.{moveRefusal, backRefusal}
 use Rattle.namechecks.specs.Opened.{MoveOpened}
 use Rattle.flags.specs.Answers.{isNameRead, BookReturns}
 use Rattle.namecut.specs.Leaves.{isFirstMove, MoveLeaves}
-use Rattle.flags.proofs.Laws.Answers.{move-want-long}
+use Rattle.flags.proofs.Laws.Answers.{is-read-is, move-want-long}
 use Rattle.namechecks.proofs.Laws.Opened.{book-fits}
-use Rattle.namecut.proofs.Laws.Marking.{is-read-is}
 use Rattle.namecut.proofs.Laws.Moved.{opened, inside, new-good, move-leaves, book-stays, moved-sector, moved-names, moved-flags}
 use Rattle.namecut.proofs.Laws.Restored.{back-opened, back-leaves}
 use Rattle.rules.specs.FlagsWanted.{MoveWants, BackWants, sectorBytes, GoodList, Whole, pickedNames}

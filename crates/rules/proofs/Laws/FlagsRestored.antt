@@ -18,7 +18,7 @@ use Rattle.sectors.specs.Images.{sectorPart, wantedMark}
 use Rattle.namechecks.specs.Refusals.{markRefusal}
 use Rattle.flags.specs.Answers.{isNameRead}
 use Rattle.namecut.specs.Leaves.{History, begins, marks, moves, aside}
-use Rattle.namecut.proofs.Laws.Marking.{is-read-is}
+use Rattle.flags.proofs.Laws.Answers.{is-read-is}
 use Rattle.namecut.proofs.Laws.Restored.{there-and-back, none-unlisted, back-and-there}
 use Rattle.namecut.proofs.Laws.History.{only-asked-names}
 use Rattle.rules.specs.Book.{flag}
