@@ -9,8 +9,8 @@
  *  - a slice is a pointer and a length, and all bytes of the length can be read, and written where the pointer is not const.
  *    An empty slice may have any pointer, NULL too. The length of `scenes` counts numbers and not bytes, that of `list` bytes and not names;
  *  - `chip` of the frame calls points to one zeradok_state, and `scenes` to its first number, each aligned as C aligns it;
- *  - what a call may write (the state behind `chip`, array, output, buffer, kept, dropped) overlaps nothing else that the same call is passed;
- *    what it only reads may overlap;
+ *  - what a call may write (the state behind `chip`, array, output, driven, buffer, kept, dropped) overlaps nothing else that the same call is
+ *    passed, so output and driven must not overlap; what it only reads may overlap;
  *  - every bool, in a state too, is 0 or 1; no other thread writes what a call was passed while it runs.
  * A state needs no further care: the calls refuse one that no chip can be in.
  *
@@ -29,7 +29,8 @@
  * A sector of names in which a mark is damaged gives back what is still good by zeradok_salvage (below; examples/c/salvage.c). It works on an image of
  * the sector, in memory, and what it leaves there is not for writing back: its warning says why, and what to do.
  * Beside a real chip the model gets each frame and wait too, so that state and array stay the chip's; after power-up the array is read back
- * (03). The waits are the sheets' typical times: wait on until bit 0 of the status (05) is 0. The F25L05PA's status write (01) takes no time
+ * (03). Of what the line reads only the bytes count that the chip drives: a silent one may be anything (zeradok_frame; examples/c/read.c).
+ * The waits are the sheets' typical times: wait on until bit 0 of the status (05) is 0. The F25L05PA's status write (01) takes no time
  * here but up to 15 ms there (40 ms below 2.7 V): wait for bit 0 behind it as well. A 05 between 06 or 50 and the 01 would spoil the 01.
  *
  * `wp_high` is the level of the chip's WP pin: the same one for a plan and for sending it.
@@ -65,7 +66,7 @@ typedef struct { uint32_t number; zeradok_state state; } zeradok_answer;
  * 0 among them, it is 0. */
 typedef struct { uint32_t number; zeradok_state state; uint32_t frames; uint64_t microseconds; size_t offset; } zeradok_ran;
 
-/* A script looked through: its frames, its microseconds, and the length of output that running it takes. offset: as in zeradok_ran. */
+/* A script looked through: its frames, its microseconds, and the length of output and of driven that running it takes. offset: as in zeradok_ran. */
 typedef struct { uint32_t number, frames; uint64_t microseconds; size_t offset, output; } zeradok_surveyed;
 
 /* A script planned: its length in bytes, its frames and its microseconds. */
@@ -93,15 +94,22 @@ zeradok_answer zeradok_power_up(zeradok_state chip);
 /* The state when so many microseconds have passed. Refusal 1: the state is not sound. Changes nothing. */
 zeradok_answer zeradok_wait(zeradok_state chip, uint32_t microseconds);
 
-/* Runs the frame: output byte i is what the chip shows while byte i goes in. Changes *chip, array and output.
- * Refusals: 1 state, 2 array length, 3 frame empty or over 4,101 bytes, 4 output length isn't the frame's. */
+/* Runs the frame. Output byte i is what the line reads while byte i goes in; driven byte i is 01 where the chip drives the line then, 00 where it is
+ * silent. A silent byte is FF in output: the board's pull-up makes it so, and a board without one reads anything there. The chip may say FF itself,
+ * as it does of an erased byte: that FF is driven, 01.
+ * Of a frame that the chip takes it drives: 05 from byte 1 on; 03 and 90 from byte 4 on; 0B from byte 5 on, byte 4 being a dummy; 9F bytes 1 to 3;
+ * AB from byte 1 on, on the F25L05PA from byte 4 on. It is silent in all else, and throughout a frame that it ignores: any but 05 while busy, any
+ * but AD, 05 and 04 in AAI, any but AB in power-down, and so on.
+ * Changes *chip, array, output and driven. Output and driven must not overlap; a refusal leaves both untouched. Refusals: 1 state, 2 array length,
+ * 3 frame empty or over 4,101 bytes, 4 output or driven isn't as long as the frame. */
 uint32_t zeradok_frame(zeradok_state *chip, bool wp_high, uint8_t *array, size_t array_length, const uint8_t *frame, size_t frame_length,
-                       uint8_t *output, size_t output_length);
+                       uint8_t *output, size_t output_length, uint8_t *driven, size_t driven_length);
 
 /* Runs the frame while the power is cut, then powers up. The mask has one byte for each array byte that the frame programs or erases, by rising
- * address (none if it does neither): a 1 bit got its new value. Changes *chip, array and output. Refusals as above, and 5: mask length. */
+ * address (none if it does neither): a 1 bit got its new value. Output and driven are the whole frame's, as if the power had stayed. Changes
+ * *chip, array, output and driven. Refusals as above, and 5: mask length. */
 uint32_t zeradok_cut_frame(zeradok_state *chip, bool wp_high, uint8_t *array, size_t array_length, const uint8_t *frame, size_t frame_length,
-                           uint8_t *output, size_t output_length, const uint8_t *mask, size_t mask_length);
+                           uint8_t *output, size_t output_length, uint8_t *driven, size_t driven_length, const uint8_t *mask, size_t mask_length);
 
 /* Plans the script that makes the bytes from start on as wanted, at the front of buffer. Changes buffer only; the state comes back as given.
  * Where nothing has to change the script is empty; where it must it unprotects the chip and protects it again. Refusals:
@@ -113,7 +121,7 @@ uint32_t zeradok_cut_frame(zeradok_state *chip, bool wp_high, uint8_t *array, si
 zeradok_planned zeradok_plan(zeradok_state chip, bool wp_high, const uint8_t *array, size_t array_length, size_t start,
                              const uint8_t *wanted, size_t wanted_length, uint8_t *buffer, size_t buffer_length);
 
-/* Looks a script through without running it: what is wrong with one typed by hand, and how long zeradok_run's output has to be. Changes nothing.
+/* Looks a script through without running it: what is wrong with one typed by hand, and how long zeradok_run's output and driven are. Changes nothing.
  * Refusals: 11 script over 32,768 bytes; else what is wrong with the first bad record, in this order:
  * 14 one byte is left, whatever it is: the mark has two;
  * 12 the mark is neither 5A 46, a frame, nor 5A 57, a wait;
@@ -123,10 +131,11 @@ zeradok_planned zeradok_plan(zeradok_state chip, bool wp_high, const uint8_t *ar
  * A script that is accepted here is refused by zeradok_run with 1, 2 or 4 only. */
 zeradok_surveyed zeradok_survey(const uint8_t *script, size_t script_length);
 
-/* Runs the records of a script, the frames' outputs one after another in output. Changes array and output; the state comes back in the answer.
- * Refusals, in this order: 1 state, 2 array length, 11 to 14 as zeradok_survey has them, 4 output length isn't the frames' sum. */
+/* Runs the records of a script: what zeradok_frame gives for each frame stands one after another in output, and so it does in driven; a wait gives
+ * nothing. Changes array, output and driven; the state comes back in the answer. Output and driven must not overlap; a refusal leaves both untouched.
+ * Refusals, in this order: 1 state, 2 array length, 11 to 14 as zeradok_survey has them, 4 output or driven isn't as long as the frames' sum. */
 zeradok_ran zeradok_run(zeradok_state chip, bool wp_high, uint8_t *array, size_t array_length, const uint8_t *script, size_t script_length,
-                        uint8_t *output, size_t output_length);
+                        uint8_t *output, size_t output_length, uint8_t *driven, size_t driven_length);
 
 /* Reads the record at an offset of a script; next is the offset behind it, and the given one for a refusal and at the end. Changes nothing.
  * Refusals: 11 script over 32,768 bytes, 12 to 14 of this record as zeradok_survey has them, 14 also where the offset is past the end. */

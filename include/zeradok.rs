@@ -134,6 +134,8 @@ unsafe extern "C" {
         frame_length: usize,
         output: *mut u8,
         output_length: usize,
+        driven: *mut u8,
+        driven_length: usize,
     ) -> u32;
     fn zeradok_cut_frame(
         chip: *mut State,
@@ -144,6 +146,8 @@ unsafe extern "C" {
         frame_length: usize,
         output: *mut u8,
         output_length: usize,
+        driven: *mut u8,
+        driven_length: usize,
         mask: *const u8,
         mask_length: usize,
     ) -> u32;
@@ -168,6 +172,8 @@ unsafe extern "C" {
         script_length: usize,
         output: *mut u8,
         output_length: usize,
+        driven: *mut u8,
+        driven_length: usize,
     ) -> Ran;
     fn zeradok_read(script: *const u8, script_length: usize, offset: usize) -> Record;
     fn zeradok_book_is_read(
@@ -268,6 +274,7 @@ pub fn frame(
     array: &mut [u8],
     frame: &[u8],
     output: &mut [u8],
+    driven: &mut [u8],
 ) -> u32 {
     unsafe {
         zeradok_frame(
@@ -279,6 +286,8 @@ pub fn frame(
             frame.len(),
             output.as_mut_ptr(),
             output.len(),
+            driven.as_mut_ptr(),
+            driven.len(),
         )
     }
 }
@@ -289,6 +298,7 @@ pub fn cut_frame(
     array: &mut [u8],
     frame: &[u8],
     output: &mut [u8],
+    driven: &mut [u8],
     mask: &[u8],
 ) -> u32 {
     unsafe {
@@ -301,6 +311,8 @@ pub fn cut_frame(
             frame.len(),
             output.as_mut_ptr(),
             output.len(),
+            driven.as_mut_ptr(),
+            driven.len(),
             mask.as_ptr(),
             mask.len(),
         )
@@ -334,7 +346,14 @@ pub fn survey(script: &[u8]) -> Surveyed {
     unsafe { zeradok_survey(script.as_ptr(), script.len()) }
 }
 
-pub fn run(chip: State, wp_high: bool, array: &mut [u8], script: &[u8], output: &mut [u8]) -> Ran {
+pub fn run(
+    chip: State,
+    wp_high: bool,
+    array: &mut [u8],
+    script: &[u8],
+    output: &mut [u8],
+    driven: &mut [u8],
+) -> Ran {
     unsafe {
         zeradok_run(
             chip,
@@ -345,6 +364,8 @@ pub fn run(chip: State, wp_high: bool, array: &mut [u8], script: &[u8], output: 
             script.len(),
             output.as_mut_ptr(),
             output.len(),
+            driven.as_mut_ptr(),
+            driven.len(),
         )
     }
 }

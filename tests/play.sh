@@ -1,6 +1,6 @@
 #!/usr/bin/env bash
 # Program `play` at its edges: 01's sample, empty input, a script one byte too long, bad records at offsets of one to five digits,
-# and a frame of 4,101 bytes.
+# a frame of 4,101 bytes, and silent bytes beside driven ones.
 # The last line counts them, and the exit is non-zero where one fails.
 set -euo pipefail
 cd "$(dirname "$0")/.."
@@ -26,6 +26,25 @@ says() {
     printf "$3" >"$work/in"
     echo "$2" >"$work/want"
     try "$1"
+}
+
+# a frame's record, from the frame's bytes in hex
+frame() {
+    printf "$(printf '5a46%04x%s' $((${#1} / 2)) "$1" | sed 's/../\\x&/g')"
+}
+
+# name, the status at the end, and frames in hex, each with what must be printed of it
+shows() {
+    local name=$1 status=$2
+    shift 2
+    rm -f "$work/in" "$work/want"
+    while [ $# -gt 0 ]; do
+        frame "$1" >>"$work/in"
+        echo "F $2" >>"$work/want"
+        shift 2
+    done
+    echo "S $status" >>"$work/want"
+    try "$name"
 }
 
 # so many bytes of good records, at least 6: a frame and waits
@@ -84,11 +103,20 @@ bad_at 32767 14 '\x00'
     head -c 4100 /dev/zero
 } >"$work/in"
 {
-    printf 'F '
-    head -c 8202 /dev/zero | tr '\0' 'F'
+    printf 'F --------'
+    head -c 8194 /dev/zero | tr '\0' 'F'
     printf '\nS 00\n'
 } >"$work/want"
 try "a frame of 4,101 bytes"
+
+# two dashes for a silent byte, none for an FF that the chip drives, and never any for the status at the end
+shows "an FF of the array is driven" 00 030012340000 --------FFFF
+shows "0B's dummy byte is silent, an FF behind it driven" 00 0b0012340000 ----------FF
+shows "9F with five bytes" 00 9f00000000 --8C3010--
+shows "AB and 90 at their borders" 00 ab000000 -------- ab00000000 --------05 90000001 -------- 900000010000 --------058C
+shows "in power-down only AB is answered" 00 b9 -- 0500 ---- 0300000000 ---------- ab00000000 --------05 0500 --00
+shows "while busy only 05 is answered" 03 06 -- 0200000000 ---------- 0300000000 ---------- 9f00000000 ---------- 0500 --03
+shows "an unknown opcode and a wrong length" 00 700000 ------ 0600 ----
 
 echo "$passed passed, $failed failed"
 [ "$failed" -eq 0 ]

@@ -19,10 +19,10 @@ static bool power_fails = true; /* once, while the first word is written */
 static bool chip_send(const uint8_t *frame, size_t length)
 {
     static const uint8_t mask[] = {0x3C, 0x3C};
-    static uint8_t output[4101]; /* what the chip shows; a save doesn't look at it */
+    static uint8_t output[4101], driven[4101]; /* what the chip says, and where it speaks; a save looks at neither, read.c at both */
     bool cut = power_fails && frame[0] == 0xAD;
-    MUST((cut ? zeradok_cut_frame(&chip, true, array, SIZE, frame, length, output, length, mask, sizeof mask)
-              : zeradok_frame(&chip, true, array, SIZE, frame, length, output, length)) == 0);
+    MUST((cut ? zeradok_cut_frame(&chip, true, array, SIZE, frame, length, output, length, driven, length, mask, sizeof mask)
+              : zeradok_frame(&chip, true, array, SIZE, frame, length, output, length, driven, length)) == 0);
     power_fails = power_fails && !cut;
     return !cut;
 }

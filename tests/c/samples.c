@@ -1,5 +1,6 @@
-/* 01's sample sessions, a plan of each chip, the flag book, salvaged name sectors, flags by name and the refusals 1 to 15 and 18 to 20, by a C
- * program that knows include/zeradok.h and nothing else. Every byte of each output and of the array is compared. */
+/* 01's sample sessions, which bytes the chip drives, a plan of each chip, the flag book, salvaged name sectors, flags by name and the refusals 1 to
+ * 15 and 18 to 20, by a C program that knows include/zeradok.h and nothing else. Every byte of each output, of which bytes are driven and of the
+ * array is compared; behind the first two nothing may be written. */
 #include "zeradok.h"
 
 #include <stdio.h>
@@ -42,9 +43,42 @@ static bool same_state(zeradok_state a, zeradok_state b)
         && a.power_down == b.power_down && a.left == b.left && a.next == b.next;
 }
 
+/* ---- what is lent for output: A5 before the call, and A5 still where the call has nothing to write */
+
+enum { ROOM = 65536 + LONGEST_FRAME }; /* also for lengths that are right when they are cut to 16 bits */
+
+static uint8_t output[ROOM], driven[ROOM], to_show[ROOM], to_drive[ROOM], untouched[ROOM];
+
+static void fill_slices(void)
+{
+    memset(output, 0xA5, ROOM);
+    memset(driven, 0xA5, ROOM);
+    memset(untouched, 0xA5, ROOM);
+}
+
+/* so many bytes of output and of driven are these, and behind them nothing is written */
+static bool gave(const uint8_t *shows, const uint8_t *drives, size_t count)
+{
+    return memcmp(output, shows, count) == 0 && memcmp(driven, drives, count) == 0 && memcmp(output + count, untouched, ROOM - count) == 0
+        && memcmp(driven + count, untouched, ROOM - count) == 0;
+}
+
+/* so many bytes, of which the chip drives none */
+static bool gave_silence(size_t count)
+{
+    memset(to_show, 0xFF, count);
+    memset(to_drive, 0x00, count);
+    return gave(to_show, to_drive, count);
+}
+
+static bool gave_nothing(void)
+{
+    return gave_silence(0);
+}
+
 /* ---- frames, written in hex */
 
-static uint8_t input[LONGEST_FRAME + 1], output[LONGEST_FRAME + 1], shown[LONGEST_FRAME + 1];
+static uint8_t input[LONGEST_FRAME + 1];
 
 static size_t bytes_of(const char *hex, uint8_t *bytes)
 {
@@ -58,31 +92,45 @@ static size_t bytes_of(const char *hex, uint8_t *bytes)
     return count;
 }
 
-static bool runs(const uint8_t *frame, size_t count, const uint8_t *shows)
+/* the array should become this, from the address on */
+static bool will_be(size_t address, const char *hex)
 {
-    memset(output, 0xA5, sizeof output);
-    return zeradok_frame(&chip, wp_high, array, size, frame, count, output, count) == 0 && memcmp(output, shows, count) == 0
-        && memcmp(array, expected, size) == 0;
+    bytes_of(hex, expected + address);
+    return true;
 }
 
-static bool sent(const char *frame, const char *shows)
+/* the array is this before anything is called */
+static bool stands(size_t address, const char *hex)
+{
+    return will_be(address, hex) && memcpy(array + address, expected + address, bytes_of(hex, input)) != NULL;
+}
+
+/* what it gives is looked at afterwards */
+static bool runs(const uint8_t *frame, size_t count)
+{
+    fill_slices();
+    return zeradok_frame(&chip, wp_high, array, size, frame, count, output, count, driven, count) == 0 && memcmp(array, expected, size) == 0;
+}
+
+/* a frame, its output, and which bytes of it the chip drives */
+static bool sent(const char *frame, const char *shows, const char *drives)
 {
     size_t count = bytes_of(frame, input);
-    return bytes_of(shows, shown) == count && runs(input, count, shown);
+    return bytes_of(shows, to_show) == count && bytes_of(drives, to_drive) == count && runs(input, count) && gave(to_show, to_drive, count);
 }
 
-/* a frame that shows nothing */
+/* a frame in which the chip drives nothing */
 static bool silent(const char *frame)
 {
-    memset(shown, 0xFF, sizeof shown);
-    return runs(input, bytes_of(frame, input), shown);
+    size_t count = bytes_of(frame, input);
+    return runs(input, count) && gave_silence(count);
 }
 
 static bool status(const char *byte)
 {
     char shows[] = "FF 00";
     memcpy(shows + 3, byte, 2);
-    return sent("05 00", shows);
+    return sent("05 00", shows, "00 01");
 }
 
 static bool waited(uint32_t microseconds)
@@ -97,26 +145,32 @@ static bool unprotected(void)
     return silent("50") && silent("01 00") && status("00");
 }
 
+/* erased, and not protected */
+static bool blank(uint8_t number)
+{
+    return erased(number) && (number == F25L05PA || unprotected());
+}
+
 /* ---- the sessions of 01 */
 
 static bool new_status(void)
 {
-    return erased(F25L008A) && sent("05 00 00", "FF 1C 1C");
+    return erased(F25L008A) && sent("05 00 00", "FF 1C 1C", "00 01 01");
 }
 
 static bool jedec(void)
 {
-    return erased(F25L008A) && sent("9F 00 00 00 00", "FF 8C 20 14 FF");
+    return erased(F25L008A) && sent("9F 00 00 00 00", "FF 8C 20 14 FF", "00 01 01 01 00");
 }
 
 static bool signature(void)
 {
-    return erased(F25L05PA) && sent("AB 00 00 00 00", "FF FF FF FF 05");
+    return erased(F25L05PA) && sent("AB 00 00 00 00", "FF FF FF FF 05", "00 00 00 00 01");
 }
 
 static bool identity(void)
 {
-    return erased(F25L008A) && sent("90 00 00 01 00 00 00", "FF FF FF FF 13 8C 13");
+    return erased(F25L008A) && sent("90 00 00 01 00 00 00", "FF FF FF FF 13 8C 13", "00 00 00 00 01 01 01");
 }
 
 static bool protection(void)
@@ -173,14 +227,16 @@ static bool longest_frame(void)
     bool ran = erased(F25L05PA);
     memset(input, 0x00, sizeof input);
     input[0] = 0x05;
-    memset(shown, 0x00, sizeof shown);
-    shown[0] = 0xFF;
-    ran = ran && runs(input, LONGEST_FRAME, shown);
+    memset(to_show, 0x00, LONGEST_FRAME);
+    to_show[0] = 0xFF;
+    memset(to_drive, 0x01, LONGEST_FRAME);
+    to_drive[0] = 0x00;
+    ran = ran && runs(input, LONGEST_FRAME) && gave(to_show, to_drive, LONGEST_FRAME);
     zeradok_state before = chip;
-    memset(output, 0xA5, sizeof output);
-    memset(shown, 0xA5, sizeof shown);
-    return ran && zeradok_frame(&chip, wp_high, array, size, input, LONGEST_FRAME + 1, output, LONGEST_FRAME + 1) == 3
-        && same_state(chip, before) && memcmp(output, shown, sizeof output) == 0 && memcmp(array, expected, size) == 0;
+    fill_slices();
+    return ran
+        && zeradok_frame(&chip, wp_high, array, size, input, LONGEST_FRAME + 1, output, LONGEST_FRAME + 1, driven, LONGEST_FRAME + 1) == 3
+        && same_state(chip, before) && gave_nothing() && memcmp(array, expected, size) == 0;
 }
 
 static bool read_over_the_top(void)
@@ -188,7 +244,7 @@ static bool read_over_the_top(void)
     bool ready = erased(F25L05PA);
     array[0xFFFF] = expected[0xFFFF] = 0x12;
     array[0x0000] = expected[0x0000] = 0x34;
-    return ready && sent("03 00 FF FF 00 00", "FF FF FF FF 12 34");
+    return ready && sent("03 00 FF FF 00 00", "FF FF FF FF 12 34", "00 00 00 00 01 01");
 }
 
 /* ---- plans and scripts: 01's plan, one of a page, and the script of the listing */
@@ -219,7 +275,14 @@ static const uint8_t listed[] = {
     0xFF, 0x00,
     0xFF, 0xFF, 0xFF, 0xFF, 0xA5, 0xFF,
 };
-static uint8_t buffer[ZERADOK_WORST_BYTES], untouched[ZERADOK_WORST_BYTES];
+static const uint8_t listed_driven[] = {
+    0x00, 0x01, 0x01, 0x01,
+    0x00,
+    0x00, 0x00, 0x00, 0x00, 0x00,
+    0x00, 0x01,
+    0x00, 0x00, 0x00, 0x00, 0x01, 0x01,
+};
+static uint8_t buffer[ZERADOK_WORST_BYTES];
 
 static void fill_buffers(void)
 {
@@ -247,40 +310,46 @@ static bool plan_refused(uint32_t number, size_t start, const uint8_t *wanted, s
     return plans(start, wanted, count, room, (zeradok_planned){.number = number});
 }
 
-/* the script is refused, and neither the array nor the output is changed */
-static bool run_refused(uint32_t number, size_t offset, const uint8_t *script, size_t length, size_t output_length)
+/* the script is refused, and neither the array nor what is lent for output is changed */
+static bool run_refused(uint32_t number, size_t offset, const uint8_t *script, size_t length, size_t output_length, size_t driven_length)
 {
-    memset(output, 0xA5, sizeof output);
-    memset(shown, 0xA5, sizeof shown);
-    zeradok_ran r = zeradok_run(chip, wp_high, array, size, script, length, output, output_length);
-    return r.number == number && same_state(r.state, chip) && r.frames == 0 && r.microseconds == 0 && r.offset == offset
-        && memcmp(output, shown, sizeof output) == 0 && memcmp(array, expected, size) == 0;
+    fill_slices();
+    zeradok_ran r = zeradok_run(chip, wp_high, array, size, script, length, output, output_length, driven, driven_length);
+    return r.number == number && same_state(r.state, chip) && r.frames == 0 && r.microseconds == 0 && r.offset == offset && gave_nothing()
+        && memcmp(array, expected, size) == 0;
 }
 
-static bool runs_script(const uint8_t *script, size_t length, const uint8_t *shows, size_t count, uint32_t frames, uint64_t microseconds)
+/* what so many bytes of frames give is looked at afterwards */
+static bool runs_script(const uint8_t *script, size_t length, size_t count, uint32_t frames, uint64_t microseconds)
 {
-    memset(output, 0xA5, sizeof output);
-    zeradok_ran r = zeradok_run(chip, wp_high, array, size, script, length, output, count);
+    fill_slices();
+    zeradok_ran r = zeradok_run(chip, wp_high, array, size, script, length, output, count, driven, count);
     chip = r.state;
-    return r.number == 0 && r.frames == frames && r.microseconds == microseconds && r.offset == 0 && memcmp(output, shows, count) == 0
-        && memcmp(array, expected, size) == 0;
+    return r.number == 0 && r.frames == frames && r.microseconds == microseconds && r.offset == 0 && memcmp(array, expected, size) == 0;
+}
+
+/* runs the plan in the buffer, in whose frames the chip drives nothing, to what the array should become */
+static bool carried_out(zeradok_planned p)
+{
+    const size_t count = zeradok_survey(buffer, p.length).output;
+    return runs_script(buffer, p.length, count, p.frames, p.microseconds) && gave_silence(count);
 }
 
 static bool planned_word(void)
 {
-    const uint8_t wanted = 0xFE, silence[] = {0xFF, 0xFF, 0xFF, 0xFF, 0xFF, 0xFF, 0xFF, 0xFF};
+    const uint8_t wanted = 0xFE;
     return erased(F25L008A) && unprotected()
         && plans(0x012345, &wanted, 1, 26, (zeradok_planned){.length = 26, .frames = 3, .microseconds = 7}) && memcmp(buffer, plan, 26) == 0
-        && becomes(0x012345, 0xFE) && runs_script(buffer, 26, silence, sizeof silence, 3, 7) && status("00");
+        && becomes(0x012345, 0xFE) && runs_script(buffer, 26, 8, 3, 7) && gave_silence(8) && status("00");
 }
 
 /* the byte between doesn't change and goes along; after the run nothing is left to plan */
 static bool planned_page(void)
 {
-    const uint8_t wanted[] = {0x0F, 0xFF, 0xF0}, silence[] = {0xFF, 0xFF, 0xFF, 0xFF, 0xFF, 0xFF, 0xFF, 0xFF};
+    const uint8_t wanted[] = {0x0F, 0xFF, 0xF0};
     return erased(F25L05PA)
         && plans(0x1234, wanted, 3, 22, (zeradok_planned){.length = 22, .frames = 2, .microseconds = 1500}) && memcmp(buffer, page_plan, 22) == 0
-        && becomes(0x1234, 0x0F) && becomes(0x1236, 0xF0) && runs_script(buffer, 22, silence, sizeof silence, 2, 1500) && status("00")
+        && becomes(0x1234, 0x0F) && becomes(0x1236, 0xF0) && runs_script(buffer, 22, 8, 2, 1500) && gave_silence(8) && status("00")
         && plans(0x1234, wanted, 3, 0, (zeradok_planned){0});
 }
 
@@ -300,8 +369,8 @@ static bool plan_refusals(void)
 
 static bool listing_whole(void)
 {
-    return erased(F25L05PA) && becomes(0x0100, 0xA5) && runs_script(listing, sizeof listing, listed, sizeof listed, 5, 1500) && status("00")
-        && runs_script(NULL, 0, shown, 0, 0, 0);
+    return erased(F25L05PA) && becomes(0x0100, 0xA5) && runs_script(listing, sizeof listing, sizeof listed, 5, 1500)
+        && gave(listed, listed_driven, sizeof listed) && status("00") && runs_script(NULL, 0, 0, 0, 0) && gave_nothing();
 }
 
 static bool surveys(const uint8_t *script, size_t length, zeradok_surveyed answer)
@@ -317,16 +386,17 @@ static bool surveyed(void)
         && surveys(NULL, 0, (zeradok_surveyed){0});
 }
 
-/* a script typed by hand: what a survey says of it, and a run with the output that the survey asks for */
+/* a script typed by hand: what a survey says of it, and a run with the output that the survey asks for; the chip drives nothing in it */
 static bool typed_by_hand(const char *hex, uint32_t number, size_t offset)
 {
     static uint8_t script[64];
     size_t length = bytes_of(hex, script);
     zeradok_surveyed s = zeradok_survey(script, length);
-    zeradok_ran r = zeradok_run(chip, wp_high, array, size, script, length, output, s.output);
+    fill_slices();
+    zeradok_ran r = zeradok_run(chip, wp_high, array, size, script, length, output, s.output, driven, s.output);
     chip = r.state;
     return s.number == number && s.offset == offset && r.number == number && r.offset == offset && r.frames == s.frames
-        && r.microseconds == s.microseconds && memcmp(array, expected, size) == 0;
+        && r.microseconds == s.microseconds && gave_silence(s.output) && memcmp(array, expected, size) == 0;
 }
 
 static bool bad_records(void)
@@ -344,16 +414,18 @@ static bool bad_records(void)
 static bool script_refusals(void)
 {
     static uint8_t long_script[LONGEST_SCRIPT + 1];
-    bool good = erased(F25L05PA) && run_refused(11, 0, long_script, LONGEST_SCRIPT + 1, 0) && run_refused(12, 0, long_script, LONGEST_SCRIPT, 0)
+    bool good = erased(F25L05PA) && run_refused(11, 0, long_script, LONGEST_SCRIPT + 1, 0, 0)
+        && run_refused(12, 0, long_script, LONGEST_SCRIPT, 0, 0)
         && surveys(long_script, LONGEST_SCRIPT + 1, (zeradok_surveyed){.number = 11})
         && surveys(long_script, LONGEST_SCRIPT, (zeradok_surveyed){.number = 12})
-        && run_refused(14, 34, listing, sizeof listing - 1, sizeof listed) && run_refused(14, 34, listing, sizeof listing - 1, 0)
-        && run_refused(4, 0, listing, sizeof listing, sizeof listed + 1);
+        && run_refused(14, 34, listing, sizeof listing - 1, sizeof listed, sizeof listed)
+        && run_refused(14, 34, listing, sizeof listing - 1, sizeof listed, 0) && run_refused(14, 34, listing, sizeof listing - 1, 0, 0)
+        && run_refused(4, 0, listing, sizeof listing, sizeof listed + 1, sizeof listed + 1);
     size--;
-    good = good && run_refused(2, 0, listing, sizeof listing - 1, sizeof listed);
+    good = good && run_refused(2, 0, listing, sizeof listing - 1, sizeof listed, sizeof listed + 1);
     size++;
     chip.bp = 8; /* not a state of the chip */
-    return good && run_refused(1, 0, listing, sizeof listing - 1, sizeof listed);
+    return good && run_refused(1, 0, listing, sizeof listing - 1, sizeof listed, sizeof listed + 1);
 }
 
 static bool reads(const uint8_t *script, size_t length, size_t offset, zeradok_record answer)
@@ -386,7 +458,7 @@ static bool listing_by_records(void)
         zeradok_record r = zeradok_read(listing, sizeof listing, offset);
         if (r.kind == 1) {
             if (listing[r.start] == 0x02) becomes(0x0100, 0xA5);
-            good = good && runs(listing + r.start, r.length, listed + laid);
+            good = good && runs(listing + r.start, r.length) && gave(listed + laid, listed_driven + laid, r.length);
             laid += r.length;
         } else if (r.kind == 2) {
             good = good && waited(r.microseconds);
@@ -411,17 +483,191 @@ static bool power(void)
     return a.number == 0 && status("A4");
 }
 
+/* the power goes in the frame; what it gives is looked at afterwards */
+static bool cut_in(const uint8_t *frame, size_t count, const uint8_t *mask, size_t mask_length)
+{
+    fill_slices();
+    return zeradok_cut_frame(&chip, wp_high, array, size, frame, count, output, count, driven, count, mask, mask_length) == 0
+        && memcmp(array, expected, size) == 0;
+}
+
 static bool cut(void)
 {
     const uint8_t frame[] = {0x02, 0x00, 0x00, 0xFF, 0x00, 0x00}, mask[] = {0x0F, 0xF0};
-    bool ready = erased(F25L05PA) && silent("06");
-    becomes(0x0000, 0xF0); /* the mask goes by rising address */
-    becomes(0x00FF, 0x0F);
-    memset(shown, 0xFF, sizeof shown);
-    bool ran = zeradok_cut_frame(&chip, wp_high, array, size, frame, 6, output, 6, mask, 2) == 0 && memcmp(output, shown, 6) == 0
-        && memcmp(array, expected, size) == 0 && same_state(chip, zeradok_new(F25L05PA).state);
-    const uint8_t read_status[] = {0x05};
-    return ready && ran && zeradok_cut_frame(&chip, wp_high, array, size, read_status, 1, output, 1, NULL, 0) == 0;
+    return erased(F25L05PA) && silent("06")
+        && becomes(0x0000, 0xF0) && becomes(0x00FF, 0x0F) /* the mask goes by rising address */
+        && cut_in(frame, 6, mask, 2) && gave_silence(6) && same_state(chip, zeradok_new(F25L05PA).state)
+        && cut_in((const uint8_t[]){0x05}, 1, NULL, 0) && gave_silence(1);
+}
+
+/* ---- which bytes the chip drives: an FF is its own where driven has 01, and nobody's where it has 00 */
+
+/* an erased byte is the chip's own FF; a frame that ends with the address is silent, and the longest read is driven to its end, over the top */
+static bool drives_read(uint8_t number)
+{
+    bool good = erased(number) && sent("03 00 00 00 00 00 00", "FF FF FF FF FF FF FF", "00 00 00 00 01 01 01") && silent("03 00 00 00")
+        && silent("03") && sent("03 FF FF FF 00", "FF FF FF FF FF", "00 00 00 00 01")
+        && stands(0x1000, "12 FF 00 01") && sent("03 00 10 00 00 00 00 00", "FF FF FF FF 12 FF 00 01", "00 00 00 00 01 01 01 01");
+    memset(input, 0xFF, LONGEST_FRAME);
+    input[0] = 0x03;
+    memset(to_show, 0xFF, LONGEST_FRAME);
+    memset(to_drive, 0x00, 4);
+    memset(to_drive + 4, 0x01, LONGEST_FRAME - 4);
+    return good && runs(input, LONGEST_FRAME) && gave(to_show, to_drive, LONGEST_FRAME);
+}
+
+/* byte 4, the dummy, is silent */
+static bool drives_fast_read(uint8_t number)
+{
+    return erased(number) && sent("0B 00 00 00 00 00 00", "FF FF FF FF FF FF FF", "00 00 00 00 00 01 01") && silent("0B 00 00 00 00")
+        && silent("0B 00 00 00") && sent("0B 00 10 00 00 00", "FF FF FF FF FF FF", "00 00 00 00 00 01")
+        && stands(0x1000, "12 FF 00") && sent("0B 00 10 00 00 00 00 00", "FF FF FF FF FF 12 FF 00", "00 00 00 00 00 01 01 01");
+}
+
+/* three bytes, and no FF behind them */
+static bool drives_jedec(uint8_t number)
+{
+    const bool is_008a = number == F25L008A;
+    return erased(number) && silent("9F") && sent("9F 00", "FF 8C", "00 01")
+        && sent("9F 00 00 00", is_008a ? "FF 8C 20 14" : "FF 8C 30 10", "00 01 01 01")
+        && sent("9F 00 00 00 00", is_008a ? "FF 8C 20 14 FF" : "FF 8C 30 10 FF", "00 01 01 01 00")
+        && sent("9F 00 00 00 00 00 00 00", is_008a ? "FF 8C 20 14 FF FF FF FF" : "FF 8C 30 10 FF FF FF FF", "00 01 01 01 00 00 00 00");
+}
+
+static bool drives_signature(uint8_t number)
+{
+    if (number == F25L008A)
+        return erased(number) && silent("AB") && sent("AB 00", "FF 13", "00 01")
+            && sent("AB 00 00 00 00 00", "FF 13 13 13 13 13", "00 01 01 01 01 01");
+    return erased(number) && silent("AB") && silent("AB 00 00 00") && sent("AB 00 00 00 00", "FF FF FF FF 05", "00 00 00 00 01")
+        && sent("AB 00 00 00 00 00", "FF FF FF FF 05 05", "00 00 00 00 01 01");
+}
+
+static bool drives_identity(uint8_t number)
+{
+    const bool is_008a = number == F25L008A;
+    return erased(number) && silent("90") && silent("90 00 00 01") && sent("90 00 00 00 00", "FF FF FF FF 8C", "00 00 00 00 01")
+        && sent("90 00 00 00 00 00 00", is_008a ? "FF FF FF FF 8C 13 8C" : "FF FF FF FF 8C 05 8C", "00 00 00 00 01 01 01")
+        && sent("90 00 00 01 00 00", is_008a ? "FF FF FF FF 13 8C" : "FF FF FF FF 05 8C", "00 00 00 00 01 01");
+}
+
+/* all that drives at rest, but 05 and AB */
+static bool reads_are_silent(void)
+{
+    return silent("03 00 00 00 00 00") && silent("0B 00 00 00 00 00") && silent("9F 00 00 00 00") && silent("90 00 00 00 00 00");
+}
+
+static bool drives_while_busy(uint8_t number)
+{
+    const uint32_t time = number == F25L008A ? 7 : 1500;
+    return blank(number) && silent("06") && becomes(0, 0x00) && silent("02 00 00 00 00")
+        && reads_are_silent() && silent("AB 00 00 00 00 00") && sent("05 00 00", "FF 03 03", "00 01 01")
+        && waited(time - 1) && reads_are_silent() && silent("AB 00 00 00 00 00") && sent("05 00 00", "FF 03 03", "00 01 01")
+        && waited(1) && sent("03 00 00 00 00 00", "FF FF FF FF 00 FF", "00 00 00 00 01 01") && sent("05 00 00", "FF 00 00", "00 01 01");
+}
+
+/* busy with its first word, then not busy and still in AAI */
+static bool drives_in_aai(void)
+{
+    return blank(F25L008A) && silent("06") && becomes(0, 0x12) && becomes(1, 0x34) && silent("AD 00 00 00 12 34")
+        && reads_are_silent() && silent("AB 00 00 00 00 00") && sent("05 00 00", "FF 43 43", "00 01 01")
+        && waited(7) && reads_are_silent() && silent("AB 00 00 00 00 00") && sent("05 00 00", "FF 42 42", "00 01 01")
+        && becomes(2, 0x56) && becomes(3, 0x78) && silent("AD 56 78") && waited(7) && silent("04")
+        && sent("03 00 00 00 00 00 00 00", "FF FF FF FF 12 34 56 78", "00 00 00 00 01 01 01 01");
+}
+
+/* AB is answered, and ends it */
+static bool drives_in_power_down(void)
+{
+    return erased(F25L05PA) && silent("B9") && silent("05") && silent("05 00 00") && reads_are_silent() && silent("05 00 00")
+        && sent("AB 00 00 00 00 00", "FF FF FF FF 05 05", "00 00 00 00 01 01") && sent("05 00 00", "FF 00 00", "00 01 01")
+        && sent("03 00 00 00 00 00", "FF FF FF FF FF FF", "00 00 00 00 01 01")
+        && silent("B9") && silent("03 00 00 00 00 00") && silent("AB") && sent("03 00 00 00 00", "FF FF FF FF FF", "00 00 00 00 01");
+}
+
+/* every other opcode, unknown ones too, in a frame of eight bytes; then the known ones in frames that are taken */
+static bool drives_nothing_else(uint8_t number)
+{
+    static const uint8_t six[] = {0x03, 0x05, 0x0B, 0x90, 0x9F, 0xAB};
+    bool good = erased(number);
+    memset(input, 0x00, sizeof input);
+    for (int opcode = 0; opcode < 256; opcode++) {
+        input[0] = (uint8_t)opcode;
+        if (memchr(six, opcode, sizeof six) == NULL) good = good && runs(input, 8) && gave_silence(8);
+    }
+    good = good && silent(number == F25L008A ? "50" : "06") && silent("01 00") && silent("06") && silent("04")
+        && silent("06") && becomes(0, 0x00) && silent("02 00 00 00 00") && waited(1500)
+        && silent("06") && becomes(0, 0xFF) && silent("20 00 00 00") && waited(90000)
+        && silent("06") && silent("D8 00 00 00") && waited(1000000) && silent("06") && silent("60") && waited(8000000)
+        && silent("06") && silent("C7") && waited(8000000) && status("00");
+    if (number == F25L05PA) return good && silent("B9");
+    return good && silent("06") && becomes(0, 0x12) && becomes(1, 0x34) && silent("AD 00 00 00 12 34") && status("43");
+}
+
+/* ignored by a chip at rest: wrong lengths, no WEL, not armed, protected, and locked by BPL with WP low */
+static bool drives_nothing_ignored(uint8_t number)
+{
+    const char *arm = number == F25L008A ? "50" : "06";
+    bool good = blank(number) && silent("06 00") && silent("20 00 00") && silent("02 00 00 00") && silent("02 00 00 00 00") && silent("20 00 00 00")
+        && silent("C7") && silent("01 9C") && status("00") && silent(arm) && silent("01 9C") && status("9C")
+        && silent("06") && silent("02 00 00 00 00") && silent("20 00 00 00") && silent("C7") && status("9E");
+    wp_high = false;
+    return good && silent(arm) && silent("01 00") && status("9E");
+}
+
+/* a frame that programs nothing and erases nothing, with the power cut in it */
+static bool cut_sent(const char *frame, const char *shows, const char *drives)
+{
+    size_t count = bytes_of(frame, input);
+    return bytes_of(shows, to_show) == count && bytes_of(drives, to_drive) == count && cut_in(input, count, NULL, 0)
+        && gave(to_show, to_drive, count);
+}
+
+/* as in the whole frame: of the chip before the cut, and to the frame's end; the F25L008A is protected after it */
+static bool drives_cut(uint8_t number)
+{
+    const bool is_008a = number == F25L008A;
+    const char *after = is_008a ? "FF 1C" : "FF 00";
+    bool good = blank(number) && stands(0, "12 FF") && cut_sent("03 00 00 00 00 00", "FF FF FF FF 12 FF", "00 00 00 00 01 01")
+        && cut_sent("0B 00 00 00 00 00 00", "FF FF FF FF FF 12 FF", "00 00 00 00 00 01 01")
+        && cut_sent("9F 00 00 00 00", is_008a ? "FF 8C 20 14 FF" : "FF 8C 30 10 FF", "00 01 01 01 00")
+        && cut_sent("AB 00 00 00 00", is_008a ? "FF 13 13 13 13" : "FF FF FF FF 05", is_008a ? "00 01 01 01 01" : "00 00 00 00 01")
+        && cut_sent("90 00 00 00 00 00", is_008a ? "FF FF FF FF 8C 13" : "FF FF FF FF 8C 05", "00 00 00 00 01 01")
+        && silent("06") && cut_sent("05 00", is_008a ? "FF 1E" : "FF 02", "00 01") && cut_sent("05 00", after, "00 01")
+        && cut_sent("06", "FF", "00") && cut_sent("00 00 00 00 00 00", "FF FF FF FF FF FF", "00 00 00 00 00 00");
+    good = good && blank(number) && silent("06") && becomes(0, 0x00) && silent("02 00 00 00 00")
+        && cut_sent("03 00 00 00 00", "FF FF FF FF FF", "00 00 00 00 00") && cut_sent("03 00 00 00 00", "FF FF FF FF 00", "00 00 00 00 01");
+    if (is_008a) return good;
+    return good && silent("B9") && cut_sent("05 00", "FF FF", "00 00") && cut_sent("05 00", "FF 00", "00 01") && silent("B9")
+        && cut_sent("AB 00 00 00 00", "FF FF FF FF 05", "00 00 00 00 01");
+}
+
+static bool script_sent(const char *hex, const char *shows, const char *drives, uint32_t frames, uint64_t microseconds)
+{
+    static uint8_t script[128];
+    const size_t length = bytes_of(hex, script), count = bytes_of(shows, to_show);
+    return bytes_of(drives, to_drive) == count && runs_script(script, length, count, frames, microseconds) && gave(to_show, to_drive, count);
+}
+
+/* frames of every sort, and waits between them that take no room */
+static bool drives_script_008a(void)
+{
+    return erased(F25L008A) && stands(0, "12 FF")
+        && script_sent("5A 46 00 02 05 00  5A 46 00 05 9F 00 00 00 00  5A 57 00 00 00 07  5A 46 00 06 03 00 00 00 00 00"
+                       "  5A 46 00 01 06  5A 46 00 06 0B 00 00 00 00 00  5A 46 00 02 AB 00  5A 57 00 00 00 01  5A 46 00 02 00 00"
+                       "  5A 46 00 06 90 00 00 00 00 00",
+                       "FF 1C  FF 8C 20 14 FF  FF FF FF FF 12 FF  FF  FF FF FF FF FF 12  FF 13  FF FF  FF FF FF FF 8C 13",
+                       "00 01  00 01 01 01 00  00 00 00 00 01 01  00  00 00 00 00 00 01  00 01  00 00  00 00 00 00 01 01", 8, 8);
+}
+
+/* a read while busy and one when it is over, a status in power-down and one behind it */
+static bool drives_script_05pa(void)
+{
+    return erased(F25L05PA) && becomes(0, 0xFE)
+        && script_sent("5A 46 00 01 06  5A 46 00 05 02 00 00 00 FE  5A 46 00 05 03 00 00 00 00  5A 46 00 02 05 00  5A 57 00 00 05 DC"
+                       "  5A 46 00 06 03 00 00 00 00 00  5A 46 00 01 B9  5A 46 00 02 05 00  5A 46 00 05 AB 00 00 00 00  5A 46 00 02 05 00",
+                       "FF  FF FF FF FF FF  FF FF FF FF FF  FF 03  FF FF FF FF FE FF  FF  FF FF  FF FF FF FF 05  FF 00",
+                       "00  00 00 00 00 00  00 00 00 00 00  00 01  00 00 00 00 01 01  00  00 00  00 00 00 00 01  00 01", 9, 1500);
 }
 
 /* ---- the flag book: the scenes 0 and 9 in the first sector, the last scene in the last one, all scenes at once */
@@ -451,12 +697,6 @@ static const uint8_t last_by_word[] = {
     0x5A, 0x57, 0x00, 0x00, 0x00, 0x07,
     0x5A, 0x46, 0x00, 0x01, 0x04,
 };
-
-/* erased, and not protected */
-static bool blank(uint8_t number)
-{
-    return erased(number) && (number == F25L05PA || unprotected());
-}
 
 static bool tells(zeradok_told told, uint32_t number, uint32_t value)
 {
@@ -509,9 +749,7 @@ static zeradok_planned one_write(uint8_t number, uint32_t bytes, bool unprotects
 /* runs the plan made last; then nothing is left to mark */
 static bool marked(size_t sector, const uint32_t *scenes, size_t count, zeradok_planned p)
 {
-    memset(shown, 0xFF, sizeof shown);
-    return runs_script(buffer, p.length, shown, zeradok_survey(buffer, p.length).output, p.frames, p.microseconds)
-        && marks(sector, scenes, count, 0, (zeradok_planned){0});
+    return carried_out(p) && marks(sector, scenes, count, 0, (zeradok_planned){0});
 }
 
 /* from an armed chip: no call but the run changes the state */
@@ -648,7 +886,7 @@ static bool book_cut(uint8_t number)
     const uint8_t mask[] = {0x01, 0x01};
     const zeradok_planned p = one_write(number, 2, false), again = one_write(number, 1, number == F25L008A);
     return blank(number) && marks(0, two_scenes, 3, p.length, p) && silent("06") && becomes(0, 0xFE)
-        && zeradok_cut_frame(&chip, wp_high, array, size, buffer + 9, 6, output, 6, mask, 2) == 0
+        && cut_in(buffer + 9, 6, mask, 2) && gave_silence(6)
         && is_read(0, 0) && is_unread(0, 1) && is_unread(0, 8) && is_unread(0, 9) && counts(1, 0)
         && marks(0, two_scenes, 3, p.length + 22, again) && becomes(1, 0xFD) && marked(0, two_scenes, 3, again)
         && is_read(0, 0) && is_unread(0, 1) && is_unread(0, 8) && is_read(0, 9) && counts(2, 0);
@@ -899,19 +1137,6 @@ static const uint8_t mark_by_page[] = {
     0x5A, 0x57, 0x00, 0x00, 0x05, 0xDC,
 };
 
-/* the array should become this, from the address on */
-static bool will_be(size_t address, const char *hex)
-{
-    bytes_of(hex, expected + address);
-    return true;
-}
-
-/* the array is this before anything is called */
-static bool stands(size_t address, const char *hex)
-{
-    return will_be(address, hex) && memcpy(array + address, expected + address, bytes_of(hex, input)) != NULL;
-}
-
 /* records of one letter, an "x" each, from the sector's start up to the place, a multiple of 4 */
 static bool stand_up_to(size_t sector, size_t place)
 {
@@ -962,19 +1187,6 @@ static bool name_plans(size_t sector, const char *name, zeradok_planned answer)
     const size_t length = strlen(name);
     return marks_name(sector, name, length, 0, short_of_room) && marks_name(sector, name, length, answer.length - 1, short_of_room)
         && marks_name(sector, name, length, answer.length, answer);
-}
-
-/* runs the plan made last, to what the array should become */
-static bool carried_out(zeradok_planned p)
-{
-    static uint8_t outputs[ZERADOK_WORST_BYTES], silence[ZERADOK_WORST_BYTES];
-    const size_t count = zeradok_survey(buffer, p.length).output;
-    memset(outputs, 0xA5, sizeof outputs);
-    memset(silence, 0xFF, sizeof silence);
-    zeradok_ran r = zeradok_run(chip, wp_high, array, size, buffer, p.length, outputs, count);
-    chip = r.state;
-    return r.number == 0 && r.frames == p.frames && r.microseconds == p.microseconds && memcmp(outputs, silence, count) == 0
-        && memcmp(array, expected, size) == 0;
 }
 
 /* the plan of so many words in so many runs, or of one page with so many bytes */
@@ -1237,9 +1449,7 @@ static bool cut_at(const char *mask, size_t address, const char *leaves)
 {
     static uint8_t bits[256];
     const size_t count = bytes_of(mask, bits), length = (size_t)buffer[7] * 256 + buffer[8];
-    return silent("06") && will_be(address, leaves)
-        && zeradok_cut_frame(&chip, wp_high, array, size, buffer + 9, length, output, length, bits, count) == 0
-        && memcmp(array, expected, size) == 0;
+    return silent("06") && will_be(address, leaves) && cut_in(buffer + 9, length, bits, count) && gave_silence(length);
 }
 
 /* Of the first word or page some bits are through, 07 72 being C7 F3 by the mask 3C; then all the rest. Of the mark only its first byte is. At no
@@ -1459,29 +1669,76 @@ static bool names_room(void)
 
 /* ---- refusals: nothing is changed */
 
-static bool refused(uint32_t number, size_t array_length, size_t frame_length, size_t output_length, size_t mask_length)
+/* a frame in hex, whole and cut, and the lengths that are lent with it */
+static bool refused(uint32_t number, const char *hex, size_t array_length, size_t output_length, size_t driven_length, size_t mask_length)
 {
-    const uint8_t frame[8] = {0x02, 0x00, 0x00, 0x00, 0x00}, mask[2] = {0xFF, 0xFF};
+    const uint8_t mask[2] = {0xFF, 0xFF};
+    const size_t length = bytes_of(hex, input);
+    const uint8_t *frame = length ? input : NULL;
+    uint8_t *shows = output_length ? output : NULL, *drives = driven_length ? driven : NULL;
     zeradok_state before = chip;
-    memset(output, 0xA5, sizeof output);
-    memset(shown, 0xA5, sizeof shown);
+    fill_slices();
     bool whole = number == 5
-        || zeradok_frame(&chip, wp_high, array, array_length, frame_length ? frame : NULL, frame_length, output, output_length) == number;
+        || zeradok_frame(&chip, wp_high, array, array_length, frame, length, shows, output_length, drives, driven_length) == number;
     return whole
-        && zeradok_cut_frame(&chip, wp_high, array, array_length, frame, frame_length, output, output_length, mask, mask_length) == number
-        && same_state(chip, before) && memcmp(output, shown, sizeof output) == 0 && memcmp(array, expected, size) == 0;
+        && zeradok_cut_frame(&chip, wp_high, array, array_length, frame, length, shows, output_length, drives, driven_length, mask, mask_length)
+            == number
+        && same_state(chip, before) && gave_nothing() && memcmp(array, expected, size) == 0;
 }
 
 static bool refusals(void)
 {
+    const char *frame = "02 00 00 00 00";
     zeradok_answer unknown = zeradok_new(7);
     if (unknown.number != 1 || !same_state(unknown.state, zeradok_new(F25L05PA).state)) return false;
     if (!(erased(F25L05PA) && silent("06"))) return false;
-    if (!(refused(2, size - 1, 5, 5, 1) && refused(3, size, 0, 0, 1) && refused(4, size, 5, 6, 1) && refused(5, size, 5, 5, 2))) return false;
+    if (!(refused(2, frame, size - 1, 5, 5, 1) && refused(3, "", size, 0, 0, 1) && refused(4, frame, size, 6, 6, 1))) return false;
+    if (!refused(5, frame, size, 5, 5, 2)) return false;
     chip.tb = true;
     chip.aai = true; /* no AAI on the F25L05PA: not a state of the chip */
     zeradok_answer up = zeradok_power_up(chip), later = zeradok_wait(chip, 1);
-    return refused(1, size - 1, 0, 6, 2) && up.number == 1 && same_state(up.state, chip) && later.number == 1 && same_state(later.state, chip);
+    return refused(1, "", size - 1, 6, 6, 2) && up.number == 1 && same_state(up.state, chip) && later.number == 1
+        && same_state(later.state, chip);
+}
+
+/* one slice alone is too short or too long, by a byte, by all of it or by so much that it is right when cut to 8 or 16 bits; or both are, some with
+ * the right sum */
+static const size_t wrong_lengths[][2] = {
+    {5, 4}, {5, 6}, {4, 5}, {6, 5}, {5, 0}, {0, 5}, {5, 5 + 256}, {5 + 256, 5}, {5, 5 + 65536}, {5 + 65536, 5},
+    {4, 6}, {6, 4}, {4, 4}, {6, 6}, {0, 10}, {10, 0}, {0, 0}, {5 + 65536, 5 + 65536},
+};
+
+/* a frame of five bytes, and a script of it */
+static bool slices_refused(const char *frame, size_t mask_length)
+{
+    uint8_t script[9] = {0x5A, 0x46, 0x00, 0x05};
+    bool good = bytes_of(frame, script + 4) == 5;
+    for (size_t i = 0; i < sizeof wrong_lengths / sizeof *wrong_lengths; i++) {
+        const size_t *lent_lengths = wrong_lengths[i];
+        good = good && refused(4, frame, size, lent_lengths[0], lent_lengths[1], mask_length)
+            && run_refused(4, 0, script, sizeof script, lent_lengths[0], lent_lengths[1]);
+    }
+    return good;
+}
+
+/* a frame that programs, three that read, of which the last is too short to drive a byte, and one that is ignored; 4 comes before 5, and behind 1 to
+ * 3 and 11 to 14 */
+static bool either_slice(uint8_t number)
+{
+    const char *program = "02 00 00 00 00";
+    bool good = blank(number) && silent("06") && slices_refused(program, 1) && slices_refused("03 00 00 00 00", 0)
+        && slices_refused("05 00 00 00 00", 0) && slices_refused("0B 00 00 00 00", 0) && slices_refused("00 00 00 00 00", 0)
+        && refused(4, program, size, 5, 4, 2) && refused(4, program, size, 4, 5, 0) && refused(2, program, size - 1, 5, 4, 1)
+        && refused(3, "", size, 0, 1, 0) && refused(3, "", size, 1, 0, 0)
+        && run_refused(4, 0, NULL, 0, 0, 1) && run_refused(4, 0, NULL, 0, 1, 0)
+        && run_refused(4, 0, listing, sizeof listing, sizeof listed, sizeof listed - 1)
+        && run_refused(4, 0, listing, sizeof listing, sizeof listed, sizeof listed + 1)
+        && run_refused(4, 0, listing, sizeof listing, sizeof listed, sizeof listing)
+        && run_refused(14, 34, listing, sizeof listing - 1, sizeof listed, sizeof listed - 1);
+    chip.bp = 8; /* not a state of the chip */
+    good = good && refused(1, program, size, 5, 4, 1) && run_refused(1, 0, listing, sizeof listing, sizeof listed, sizeof listed - 1);
+    chip.bp = 0;
+    return good && sent("05 00", "FF 02", "00 01");
 }
 
 static const struct {
@@ -1512,6 +1769,10 @@ static const struct {
     {"records of a plan, one by one", records},
     {"power-up of both chips", power},
     {"a cut page", cut},
+    {"driven in AAI: 05 alone", drives_in_aai},
+    {"driven in power-down: AB alone, not 05", drives_in_power_down},
+    {"driven in a script, 008A", drives_script_008a},
+    {"driven in a script, 05PA", drives_script_05pa},
     {"book: questions while busy, in power-down and in AAI, and refusal 7", book_not_at_rest},
     {"salvage: damaged records in front of good ones", salvage_damaged},
     {"salvage: FF inside", salvage_ff_inside},
@@ -1534,6 +1795,16 @@ static const struct {
     const char *name;
     bool (*holds)(uint8_t number);
 } on_each_chip[] = {
+    {"driven: 03 from byte 4, an erased FF too", drives_read},
+    {"driven: 0B from byte 5, not its dummy", drives_fast_read},
+    {"driven: 9F bytes 1 to 3, not byte 4", drives_jedec},
+    {"driven: AB from byte 1 or 4", drives_signature},
+    {"driven: 90 from byte 4", drives_identity},
+    {"driven while busy: 05 alone", drives_while_busy},
+    {"driven: nothing else", drives_nothing_else},
+    {"driven: nothing in frames that are ignored", drives_nothing_ignored},
+    {"driven in frames that are cut", drives_cut},
+    {"refusal 4 by either slice", either_slice},
     {"book: scenes 0, 9 and 9", book_first},
     {"book: scene 4,095 in the last sector", book_last},
     {"book: every scene, by a list of 8,192", book_whole},

@@ -1,5 +1,6 @@
 pub mod Inside
 pub mod Supplied
+pub mod Line
 pub mod Accepted
 pub mod Call
 pub mod Ran

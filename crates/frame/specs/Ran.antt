@@ -4,7 +4,7 @@ use mathlib.Core.Bool.{Bool}
 use mathlib.Core.List.{List}
 use Prim.Native.Nat.{ℕ}
 use lib.ListN.{length}
-use Rattle.common.specs.Lists.{mapi, tab}
+use Rattle.common.specs.Lists.{mapi}
 use Rattle.state.specs.declared.State.{State}
 use Rattle.state.specs.Power.{poweredUp}
 use Rattle.command.specs.Command.{commandOf}
@@ -14,6 +14,7 @@ use Rattle.effect.specs.declared.Effect.{Effect}
 use Rattle.effect.specs.Effect.{changed, maskLength}
 use Rattle.effect.specs.Cut.{cut}
 use Rattle.frame.specs.Device.{Device, device}
+use Rattle.frame.specs.Line.{Line, showing}
 use Rattle.frame.specs.Effect.{effectOf}
 
 -- the frame's effect on the array, at a level of WP
@@ -29,13 +30,13 @@ stateAt s wp f = stateAfter s (commandOf s wp f)
 unfoldable pub ranDevice : Bool → List ℕ → Device → Device
 ranDevice wp f d = device (stateAt (d .state) wp f) (mapi (changed (effectAt (d .state) wp f) f) (d .array))
 
-unfoldable pub shown : Bool → List ℕ → Device → List ℕ
-shown wp f d = tab (length f) (shownAt (d .state) (commandOf (d .state) wp f) (memory (d .array)))
+unfoldable pub shownLine : Bool → List ℕ → Device → Line
+shownLine wp f d = showing (length f) (shownAt (d .state) (commandOf (d .state) wp f) (memory (d .array)))
 
 -- what an accepted frame leaves
-pub record FrameDone (wp : Bool) (f : List ℕ) (d : Device) (after : Device) (outputAfter : List ℕ) : Type 0 where
+pub record FrameDone (wp : Bool) (f : List ℕ) (d : Device) (after : Device) (lineAfter : Line) : Type 0 where
   pub device-is : after ≡ ranDevice wp f d
-  pub output-is : outputAfter ≡ shown wp f d
+  pub line-is : lineAfter ≡ shownLine wp f d
 
 -- ---- the interrupted frame
 
@@ -47,6 +48,6 @@ maskWanted wp f d = maskLength (effectAt (d .state) wp f)
 unfoldable pub tornDevice : Bool → List ℕ → List ℕ → Device → Device
 tornDevice wp f mask d = device (poweredUp (stateAt (d .state) wp f)) (mapi (cut (effectAt (d .state) wp f) f mask) (d .array))
 
-pub record CutDone (wp : Bool) (f mask : List ℕ) (d : Device) (after : Device) (outputAfter : List ℕ) : Type 0 where
+pub record CutDone (wp : Bool) (f mask : List ℕ) (d : Device) (after : Device) (lineAfter : Line) : Type 0 where
   pub device-is : after ≡ tornDevice wp f mask d
-  pub output-is : outputAfter ≡ shown wp f d
+  pub line-is : lineAfter ≡ shownLine wp f d

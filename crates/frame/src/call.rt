@@ -8,10 +8,11 @@ use state::Answer;
 use state::State;
 ghost use mathlib.Core.Path.{_≡_};
 ghost use Rattle.frame.specs.Device.{device};
+ghost use Rattle.frame.specs.Line.{onLine};
 ghost use Rattle.frame.specs.Call.{frameNumber, FrameRun, cutNumber, CutRun};
 
-fn frame_number(s: State, wp: bool, array: &[u8], input: &[u8], output: &[u8]) -> u32
-    ensures { λ r. ⌜ r ≡ frameNumber wp (now (input .entry)) (device s (now (array .entry))) (now (output .entry)) ⌝ }
+fn frame_number(s: State, wp: bool, array: &[u8], input: &[u8], output: &[u8], driven: &[u8]) -> u32
+    ensures { λ r. ⌜ r ≡ frameNumber wp (now (input .entry)) (device s (now (array .entry))) (onLine (now (output .entry)) (now (driven .entry))) ⌝ }
 {
     if !state::soundness::is_sound(s) {
         return refusals::STATE_NOT_SOUND;
@@ -22,27 +23,42 @@ fn frame_number(s: State, wp: bool, array: &[u8], input: &[u8], output: &[u8]) -
     if (input.len() == 0) | (LONGEST_FRAME < input.len()) {
         return refusals::WRONG_FRAME;
     }
-    if output.len() != input.len() {
+    if (output.len() != input.len()) | (driven.len() != input.len()) {
         return refusals::WRONG_OUTPUT;
     }
     0
 }
 
 // Run a frame: the bytes between select and deselect.
-pub fn run_frame(s: State, wp: bool, array: &mut [u8], input: &[u8], output: &mut [u8]) -> Answer
-    ensures { λ r. ⌜ FrameRun wp (now (input .entry)) (device s (now (array .entry))) (now (output .entry)) (r .number) (device (r .state) (now (array .exit))) (now (output .exit)) ⌝ }
+pub fn run_frame(
+    s: State,
+    wp: bool,
+    array: &mut [u8],
+    input: &[u8],
+    output: &mut [u8],
+    driven: &mut [u8],
+) -> Answer
+    ensures { λ r. ⌜ FrameRun wp (now (input .entry)) (device s (now (array .entry))) (onLine (now (output .entry)) (now (driven .entry))) (r .number) (device (r .state) (now (array .exit))) (onLine (now (output .exit)) (now (driven .exit))) ⌝ }
 {
-    let number = frame_number(s, wp, array, input, output);
+    let number = frame_number(s, wp, array, input, output, driven);
     if number != 0 {
         return state::refuse(number, s);
     }
-    state::grant(run_accepted(s, wp, array, input, output))
+    state::grant(run_accepted(s, wp, array, input, output, driven))
 }
 
-fn cut_number(s: State, wp: bool, array: &[u8], input: &[u8], output: &[u8], mask: &[u8]) -> u32
-    ensures { λ r. ⌜ r ≡ cutNumber wp (now (input .entry)) (now (mask .entry)) (device s (now (array .entry))) (now (output .entry)) ⌝ }
+fn cut_number(
+    s: State,
+    wp: bool,
+    array: &[u8],
+    input: &[u8],
+    output: &[u8],
+    driven: &[u8],
+    mask: &[u8],
+) -> u32
+    ensures { λ r. ⌜ r ≡ cutNumber wp (now (input .entry)) (now (mask .entry)) (device s (now (array .entry))) (onLine (now (output .entry)) (now (driven .entry))) ⌝ }
 {
-    let number = frame_number(s, wp, array, input, output);
+    let number = frame_number(s, wp, array, input, output, driven);
     if number != 0 {
         return number;
     }
@@ -60,13 +76,14 @@ pub fn run_cut_frame(
     array: &mut [u8],
     input: &[u8],
     output: &mut [u8],
+    driven: &mut [u8],
     mask: &[u8],
 ) -> Answer
-    ensures { λ r. ⌜ CutRun wp (now (input .entry)) (now (mask .entry)) (device s (now (array .entry))) (now (output .entry)) (r .number) (device (r .state) (now (array .exit))) (now (output .exit)) ⌝ }
+    ensures { λ r. ⌜ CutRun wp (now (input .entry)) (now (mask .entry)) (device s (now (array .entry))) (onLine (now (output .entry)) (now (driven .entry))) (r .number) (device (r .state) (now (array .exit))) (onLine (now (output .exit)) (now (driven .exit))) ⌝ }
 {
-    let number = cut_number(s, wp, array, input, output, mask);
+    let number = cut_number(s, wp, array, input, output, driven, mask);
     if number != 0 {
         return state::refuse(number, s);
     }
-    state::grant(run_accepted_cut(s, wp, array, input, output, mask))
+    state::grant(run_accepted_cut(s, wp, array, input, output, driven, mask))
 }

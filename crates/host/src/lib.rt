@@ -14,6 +14,7 @@ ghost use mathlib.Core.Path.{_≡_};
 ghost use Rattle.state.specs.Power.{newChip, powerUp};
 ghost use Rattle.state.specs.Time.{passTime};
 ghost use Rattle.frame.specs.Device.{device};
+ghost use Rattle.frame.specs.Line.{onLine};
 ghost use Rattle.frame.specs.Call.{FrameRun, CutRun};
 ghost use Rattle.plan.specs.Update.{PlanUpdated};
 ghost use Rattle.script.specs.Survey.{surveyOf};
@@ -47,7 +48,8 @@ pub extern "C" fn zeradok_wait(chip: State, microseconds: u32) -> Answer
     state::time::pass_time(chip, microseconds)
 }
 
-// Run a frame. The state is lent, and is changed where it stands; the number is returned.
+// Run a frame. The state is lent, and is changed where it stands; the number is returned. Where `output` holds a byte, `driven` holds 01 if the chip
+// drove it, 00 if it was silent.
 #[no_mangle]
 pub extern "C" fn zeradok_frame(
     chip: &mut State,
@@ -55,11 +57,12 @@ pub extern "C" fn zeradok_frame(
     array: &mut [u8],
     frame: &[u8],
     output: &mut [u8],
+    driven: &mut [u8],
 ) -> u32
-    ensures { λ r. ⌜ FrameRun «wp_high» (now (frame .entry)) (device (now (chip .entry)) (now (array .entry))) (now (output .entry)) r (device (now (chip .exit)) (now (array .exit))) (now (output .exit)) ⌝ }
+    ensures { λ r. ⌜ FrameRun «wp_high» (now (frame .entry)) (device (now (chip .entry)) (now (array .entry))) (onLine (now (output .entry)) (now (driven .entry))) r (device (now (chip .exit)) (now (array .exit))) (onLine (now (output .exit)) (now (driven .exit))) ⌝ }
 {
     let s = *chip;
-    let a = frame::call::run_frame(s, wp_high, array, frame, output);
+    let a = frame::call::run_frame(s, wp_high, array, frame, output, driven);
     *chip = a.state;
     a.number
 }
@@ -72,12 +75,13 @@ pub extern "C" fn zeradok_cut_frame(
     array: &mut [u8],
     frame: &[u8],
     output: &mut [u8],
+    driven: &mut [u8],
     mask: &[u8],
 ) -> u32
-    ensures { λ r. ⌜ CutRun «wp_high» (now (frame .entry)) (now (mask .entry)) (device (now (chip .entry)) (now (array .entry))) (now (output .entry)) r (device (now (chip .exit)) (now (array .exit))) (now (output .exit)) ⌝ }
+    ensures { λ r. ⌜ CutRun «wp_high» (now (frame .entry)) (now (mask .entry)) (device (now (chip .entry)) (now (array .entry))) (onLine (now (output .entry)) (now (driven .entry))) r (device (now (chip .exit)) (now (array .exit))) (onLine (now (output .exit)) (now (driven .exit))) ⌝ }
 {
     let s = *chip;
-    let a = frame::call::run_cut_frame(s, wp_high, array, frame, output, mask);
+    let a = frame::call::run_cut_frame(s, wp_high, array, frame, output, driven, mask);
     *chip = a.state;
     a.number
 }
@@ -113,10 +117,11 @@ pub extern "C" fn zeradok_run(
     array: &mut [u8],
     script: &[u8],
     output: &mut [u8],
+    driven: &mut [u8],
 ) -> Ran
-    ensures { λ r. ⌜ ScriptRun «wp_high» (now (script .entry)) (device chip (now (array .entry))) (now (output .entry)) r (device (r .state) (now (array .exit))) (now (output .exit)) ⌝ }
+    ensures { λ r. ⌜ ScriptRun «wp_high» (now (script .entry)) (device chip (now (array .entry))) (onLine (now (output .entry)) (now (driven .entry))) r (device (r .state) (now (array .exit))) (onLine (now (output .exit)) (now (driven .exit))) ⌝ }
 {
-    run::run_script(chip, wp_high, array, script, output)
+    run::run_script(chip, wp_high, array, script, output, driven)
 }
 
 // Read the record at an offset of a script.

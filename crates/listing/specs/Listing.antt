@@ -3,7 +3,7 @@ use mathlib.Core.Bool.{Bool, true, cond}
 use mathlib.Core.List.{List, [], _∷_, _++_}
 use Prim.Native.Nat.{ℕ, _+_, _*_}
 use lib.Dec.{ltb}
-use lib.ListN.{length, replicate, take, drop}
+use lib.ListN.{length, replicate}
 use Rattle.state.specs.Power.{newChip}
 use Rattle.state.specs.Status.{statusOf}
 use Rattle.script.specs.Record.{Record, frame, wait}
@@ -11,9 +11,10 @@ use Rattle.common.specs.Limits.{longestScript}
 use Rattle.common.specs.Refusals.{scriptTooLong}
 use Rattle.script.specs.Decode.{faultNumber, Decoded, records, badAt, decode}
 use Rattle.frame.specs.Device.{Device, device}
-use Rattle.run.specs.Run.{step, outputOf, run}
+use Rattle.frame.specs.Line.{Line, front, behind}
+use Rattle.run.specs.Run.{step, shownBy, run}
 use Rattle.run.specs.Script.{carriesOffset}
-use Rattle.text.specs.Text.{hex, line, decimalsLine}
+use Rattle.text.specs.Text.{hex, shownHex, line, decimalsLine}
 
 -- how long a listing can be: a frame of n bytes takes 4 + n bytes of the script and 2 n + 3 characters; the last line has 5
 abbrev pub longestListing : ℕ
@@ -29,9 +30,9 @@ erased = replicate 65536 0xff
 abbrev pub new05pa : Device
 new05pa = device (newChip 5 .state) erased
 
--- "F, a space, its output in capital hex without gaps"
-abbrev pub frameLine : List ℕ → List ℕ
-frameLine output = line 0x46 (hex output)
+-- "F, a space, its output in capital hex without gaps"; "two dashes for a silent byte" (02, A10)
+abbrev pub frameLine : Line → List ℕ
+frameLine l = line 0x46 (shownHex (l .output) (l .driven))
 
 -- "S, a space, the status"
 abbrev pub statusLine : Device → List ℕ
@@ -52,7 +53,7 @@ whyRefused number offset = cond (carriesOffset number) (badRecordLine number off
 -- "One line a frame", in its place in the run; a wait has none
 unfoldable pub frameLines : List Record → Device → List ℕ
 frameLines [] d = []
-frameLines (frame f ∷ rs) d = frameLine (outputOf high (frame f) d) ++ frameLines rs (step high (frame f) d)
+frameLines (frame f ∷ rs) d = frameLine (shownBy high (frame f) d) ++ frameLines rs (step high (frame f) d)
 frameLines (wait n ∷ rs) d = frameLines rs (step high (wait n) d)
 
 -- the status comes "last"; "a refusal is one line"
@@ -64,8 +65,8 @@ decodedLines (badAt fault offset) = badRecordLine (faultNumber fault) offset
 unfoldable pub listing : List ℕ → List ℕ
 listing script = cond (ltb longestScript (length script)) (refusalLine scriptTooLong) (decodedLines (decode script))
 
--- the frames' lines made of all their outputs, laid "one after another"
-unfoldable pub cutLines : List Record → List ℕ → List ℕ
-cutLines [] output = []
-cutLines (frame f ∷ rs) output = frameLine (take (length f) output) ++ cutLines rs (drop (length f) output)
-cutLines (wait n ∷ rs) output = cutLines rs output
+-- the frames' lines made of all that they show, laid "one after another"
+unfoldable pub cutLines : List Record → Line → List ℕ
+cutLines [] l = []
+cutLines (frame f ∷ rs) l = frameLine (front (length f) l) ++ cutLines rs (behind (length f) l)
+cutLines (wait n ∷ rs) l = cutLines rs l

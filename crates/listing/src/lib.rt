@@ -1,4 +1,4 @@
-// What program `play` prints of a script (01): the outputs of its frames and the status, or why it is refused and where.
+// What program `play` prints of a script (01): what its frames show and the status, or why it is refused and where.
 mod frames;
 mod refusal;
 
@@ -19,8 +19,8 @@ fn erased_array() -> [u8; 65536]
     [0xff; 65536]
 }
 
-// Room for the outputs of a script, which are no longer than the script.
-fn output_room() -> [u8; LONGEST_SCRIPT]
+// Room for one slice of what a script's frames show, which is no longer than the script.
+fn line_room() -> [u8; LONGEST_SCRIPT]
     ensures { λ r. ⌜ longestScript ≡ length r ⌝ }
 {
     [0; LONGEST_SCRIPT]
@@ -32,18 +32,25 @@ pub fn listing(script: &[u8], text: &mut [u8; LONGEST_LISTING]) -> usize
 {
     let survey = script::survey::survey_of(script);
     let mut array = erased_array();
-    let mut output = output_room();
+    let mut output = line_room();
+    let mut driven = line_room();
     let ran = run::run_script(
         state::power::new_chip(5).state,
         true,
         &mut array,
         script,
         &mut output[..survey.output],
+        &mut driven[..survey.output],
     );
     if ran.number != 0 {
         return refusal::put_refusal(ran.number, ran.offset, text);
     }
-    let last_line = frames::put_frame_lines(script, &output[..survey.output], text);
+    let last_line = frames::put_frame_lines(
+        script,
+        &output[..survey.output],
+        &driven[..survey.output],
+        text,
+    );
     text::put_hex_line(
         b'S',
         &[state::status::status_of(ran.state)],

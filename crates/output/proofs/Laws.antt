@@ -1,3 +1,4 @@
 pub mod Memory
 pub mod Shown
 pub mod Output
+pub mod Settled

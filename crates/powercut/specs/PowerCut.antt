@@ -13,6 +13,7 @@ use Rattle.state.specs.Power.{powerUp}
 use Rattle.state.specs.Time.{passTime}
 use Rattle.script.specs.Record.{Record, frame, wait, encode}
 use Rattle.frame.specs.Device.{Device, withState}
+use Rattle.frame.specs.Line.{Line, Long}
 use Rattle.frame.specs.Call.{frameNumber, cutNumber, cutDevice}
 use Rattle.common.specs.Bits.{Bytes, bitAt}
 use Rattle.run.specs.declared.Ran.{Ran}
@@ -50,13 +51,13 @@ abbrev pub stateAfterPlan : List Record → State → State
 stateAfterPlan [] s = s
 stateAfterPlan (r ∷ rs) s = withArmed (withWel s false) false
 
--- the records run uncut on a chip leave this array, and no call on the way is refused: no frame with an output of its length, no part of a wait, and no
+-- the records run uncut on a chip leave this array, and no call on the way is refused: no frame with a line of its length, no part of a wait, and no
 -- power-up where the power might go
 pub record Completes (records : List Record) (wp : Bool) (chip : Device) (array : List ℕ) : Type 0 where
   pub array-is : run wp records chip .array ≡ array
   pub state-is : run wp records chip .state ≡ stateAfterPlan records (chip .state)
   pub frames-accepted : (before after : List Record) (f : List ℕ) → records ≡ before ++ (frame f ∷ after)
-      → (output : List ℕ) → length output ≡ length f → frameNumber wp f (run wp before chip) output ≡ 0
+      → (line : Line) → Long (length f) line → frameNumber wp f (run wp before chip) line ≡ 0
   pub waits-accepted : (before after : List Record) (n m : ℕ) → records ≡ before ++ (wait n ∷ after) → m ≤ n
       → passTime (run wp before chip .state) m .number ≡ 0
   pub powers-up : (before after : List Record) → records ≡ before ++ after → powerUp (run wp before chip .state) .number ≡ 0
@@ -75,12 +76,12 @@ waited m chip = withState chip (passTime (chip .state) m .state)
 
 -- "Cut the power between any two records, or inside any programming, with any part of the bits due to fall having fallen": the chip powered up.
 -- Between: also before the first record and behind the last. Inside: the call "run an interrupted frame", for any frame, with any mask of bytes and any
--- output that the call accepts. During: when m of a wait's n microseconds have passed; before the last of them the chip is still busy with the word or
+-- line that the call accepts. During: when m of a wait's n microseconds have passed; before the last of them the chip is still busy with the word or
 -- the page that it waits for
 pub data CutShort (records : List Record) (wp : Bool) (chip : Device) : Device → Type 0 where
   between : (before after : List Record) → records ≡ before ++ after → CutShort records wp chip (powered (run wp before chip))
-  inside : (before after : List Record) (f mask output : List ℕ) → records ≡ before ++ (frame f ∷ after) → Bytes mask
-      → cutNumber wp f mask (run wp before chip) output ≡ 0 → CutShort records wp chip (cutDevice wp f mask (run wp before chip) output)
+  inside : (before after : List Record) (f mask : List ℕ) (line : Line) → records ≡ before ++ (frame f ∷ after) → Bytes mask
+      → cutNumber wp f mask (run wp before chip) line ≡ 0 → CutShort records wp chip (cutDevice wp f mask (run wp before chip) line)
   during : (before after : List Record) (n m : ℕ) → records ≡ before ++ (wait n ∷ after) → m ≤ n
       → CutShort records wp chip (powered (waited m (run wp before chip)))
 

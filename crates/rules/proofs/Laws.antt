@@ -7,6 +7,7 @@ pub mod Power
 pub mod Protection
 pub mod Time
 mod Kinds
+mod Lines
 mod Does
 mod AtRest
 mod Armed
@@ -36,6 +37,7 @@ pub mod Play
 pub mod Driver
 mod Erases
 pub mod Unread
+pub mod Driven
 pub mod Worst
 pub mod Book
 pub mod Salvaged

@@ -12,11 +12,12 @@ use Rattle.script.specs.declared.reader.Found.the-variants.{Refused}
 use Rattle.script.specs.Answers.{numberOf}
 use Rattle.script.specs.Reader.{recordAt}
 use Rattle.frame.specs.Device.{Device}
+use Rattle.frame.specs.Line.{Line}
 use Rattle.run.specs.declared.Ran.{Ran}
 use Rattle.run.specs.Script.{ScriptRun}
 use Rattle.rules.specs.Scripts.{Writable}
 use Rattle.rules.specs.Running.{Counted}
-use Rattle.rules.specs.Conditions.{NotSound, WrongArray, ScriptTooLong}
+use Rattle.rules.specs.Conditions.{NotSound, WrongArray, BothLong, ScriptTooLong}
 use Rattle.rules.specs.Numbered.{Check, _when_, FirstIs, Numbered}
 
 -- ---- one record
@@ -111,7 +112,7 @@ pub record SurveyRules (script : List ℕ) : Type 0 where
   pub read-there : Carries (surveyOf script .number)
       → recordAt script (surveyOf script .offset) ≡ Refused (surveyOf script .number) (surveyOf script .offset)
   -- run, a script that is accepted here is refused for what is not in it alone
-  pub then-run : (wp : Bool) (d : Device) (output : List ℕ) (ran : Ran) (after : Device) (outputAfter : List ℕ)
-      → surveyOf script .number ≡ 0 → ScriptRun wp script d output ran after outputAfter
+  pub then-run : (wp : Bool) (d : Device) (line : Line) (ran : Ran) (after : Device) (lineAfter : Line)
+      → surveyOf script .number ≡ 0 → ScriptRun wp script d line ran after lineAfter
       → Numbered (ran .number)
-      (1 when NotSound (d .state) ∷ 2 when WrongArray (d .state) (d .array) ∷ 4 when (length output ≡ surveyOf script .output → ⊥) ∷ [])
+      (1 when NotSound (d .state) ∷ 2 when WrongArray (d .state) (d .array) ∷ 4 when (BothLong line (surveyOf script .output) → ⊥) ∷ [])

@@ -13,6 +13,7 @@ use Rattle.state.specs.declared.State.{State}
 use Rattle.state.specs.declared.Planned.{Planned}
 use Rattle.state.specs.declared.Told.{Told}
 use Rattle.frame.specs.Device.{Device}
+use Rattle.frame.specs.Line.{Line}
 use Rattle.script.specs.declared.reader.Found.the-variants.{End}
 use Rattle.script.specs.Reader.{recordAt}
 use Rattle.run.specs.declared.Ran.{Ran}
@@ -102,7 +103,7 @@ pub record BookCut (sector : ℕ) (scenes before after : List ℕ) : Type 0 wher
 pub record MarkingRules (wp : Bool) (chip : Device) (sector : ℕ) (scenes : List ℕ) (room : ℕ) (script : List ℕ) : Type 0 where
   -- sent record by record, or run by the call
   pub sent : (at next : ℕ) (met : Device) → SentTo wp script chip at met → recordAt script at ≡ End next → BookMarked sector scenes (chip .array) (met .array)
-  pub run : (output : List ℕ) (ran : Ran) (after : Device) (shown : List ℕ) → ScriptRun wp script chip output ran after shown → ran .number ≡ 0
+  pub run : (line : Line) (ran : Ran) (after : Device) (shown : Line) → ScriptRun wp script chip line ran after shown → ran .number ≡ 0
       → BookMarked sector scenes (chip .array) (after .array)
   pub cut : (lost : Device) → CutAt wp script chip lost → BookCut sector scenes (chip .array) (lost .array)
   -- and marked again behind the cut: accepted, and it finishes

@@ -8,6 +8,7 @@ use lib.ListN.{length, getD}
 use Rattle.state.specs.declared.State.{State}
 use Rattle.state.specs.Protection.{firstProtected}
 use Rattle.frame.specs.Device.{Device}
+use Rattle.frame.specs.Line.{Line}
 use Rattle.frame.specs.Ran.{maskWanted}
 use Rattle.script.specs.Record.{Record, AllFit, encode, outputLength}
 use Rattle.plan.specs.Plan.{planRecords}
@@ -32,13 +33,17 @@ WrongArray s array = length array ≡ size s → ⊥
 abbrev pub WrongFrame : List ℕ → Type 0
 WrongFrame f = (length f ≡ 0) ⊎ (4101 < length f)
 
+-- both slices have so many bytes: "4 now covers both slices" (02, A10)
+abbrev pub BothLong : Line → ℕ → Type 0
+BothLong line n = (length (line .output) ≡ n) × (length (line .driven) ≡ n)
+
 -- 4: "output length isn't the frame's
-abbrev pub WrongOutput : List ℕ → List ℕ → Type 0
-WrongOutput f output = length output ≡ length f → ⊥
+abbrev pub WrongOutput : List ℕ → Line → Type 0
+WrongOutput f line = BothLong line (length f) → ⊥
 
 -- (a script's: the sum)"
-abbrev pub WrongSum : List ℕ → List ℕ → Type 0
-WrongSum script output = (records : List Record) → AllFit records → script ≡ encode records → length output ≡ outputLength records → ⊥
+abbrev pub WrongSum : List ℕ → Line → Type 0
+WrongSum script line = (records : List Record) → AllFit records → script ≡ encode records → BothLong line (outputLength records) → ⊥
 
 -- 5: "mask length wrong"
 abbrev pub WrongMask : Bool → List ℕ → List ℕ → Device → Type 0

@@ -13,7 +13,9 @@ use Rattle.state.specs.declared.Answer.{Answer}
 use Rattle.state.specs.Soundness.{isSound}
 use Rattle.state.specs.Power.{newChip, powerUp}
 use Rattle.state.specs.Time.{passTime}
+use Rattle.output.specs.declared.Shown.{Shown}
 use Rattle.frame.specs.Device.{Device}
+use Rattle.frame.specs.Line.{Line}
 use Rattle.frame.specs.Call.{frameNumber, cutNumber, FrameRun, CutRun}
 use Rattle.script.specs.declared.reader.Found.the-variants.{Frame, End}
 use Rattle.script.specs.declared.survey.Surveyed.{Surveyed}
@@ -55,10 +57,12 @@ use Rattle.rules.specs.Refusals.{
   PlanRefusals,
   ScriptRefusals,
 }
+use Rattle.rules.specs.Conditions.{BothLong}
 use Rattle.rules.specs.BadRecords.{ReaderRefusals, SurveyRules}
 use Rattle.rules.specs.Play.{PlayRules}
 use Rattle.rules.specs.Driver.{SentTo, CutAt}
 use Rattle.rules.specs.Unread.{UnreadRules}
+use Rattle.rules.specs.Driven.{DrivenRules}
 use Rattle.rules.specs.Worst.{WorstRules}
 use Rattle.rules.specs.Book.{BookRules}
 use Rattle.rules.specs.Salvage.{SalvageRules}
@@ -78,14 +82,14 @@ pub record EveryCallAnswers : Type 0 where
   pub new-chip : (chip : ℕ) → One (λ (a : Answer). a ≡ newChip chip)
   pub power-up : (s : State) → One (λ (a : Answer). a ≡ powerUp s)
   pub pass-time : (s : State) (n : ℕ) → One (λ (a : Answer). a ≡ passTime s n)
-  -- number, chip and output
-  pub run-frame : (wp : Bool) (f : List ℕ) (d : Device) (output : List ℕ)
-      → One (λ (a : ℕ × (Device × List ℕ)). FrameRun wp f d output (a .0) (a .1 .0) (a .1 .1))
-  pub run-cut-frame : (wp : Bool) (f mask : List ℕ) (d : Device) (output : List ℕ)
-      → One (λ (a : ℕ × (Device × List ℕ)). CutRun wp f mask d output (a .0) (a .1 .0) (a .1 .1))
-  -- number, state, counts and offset; chip and output
-  pub run-script : (wp : Bool) (script : List ℕ) (d : Device) (output : List ℕ)
-      → One (λ (a : Ran × (Device × List ℕ)). ScriptRun wp script d output (a .0) (a .1 .0) (a .1 .1))
+  -- number, chip and line: output and driven
+  pub run-frame : (wp : Bool) (f : List ℕ) (d : Device) (line : Line)
+      → One (λ (a : ℕ × (Device × Line)). FrameRun wp f d line (a .0) (a .1 .0) (a .1 .1))
+  pub run-cut-frame : (wp : Bool) (f mask : List ℕ) (d : Device) (line : Line)
+      → One (λ (a : ℕ × (Device × Line)). CutRun wp f mask d line (a .0) (a .1 .0) (a .1 .1))
+  -- number, state, counts and offset; chip and line
+  pub run-script : (wp : Bool) (script : List ℕ) (d : Device) (line : Line)
+      → One (λ (a : Ran × (Device × Line)). ScriptRun wp script d line (a .0) (a .1 .0) (a .1 .1))
   -- number, state, length and counts; buffer
   pub plan-update : (s : State) (wp : Bool) (array : List ℕ) (start : ℕ) (wanted buffer : List ℕ)
       → One (λ (a : Planned × List ℕ). PlanUpdated s wp array start wanted buffer (a .1) (a .0))
@@ -116,12 +120,12 @@ pub record RefusedAsIn01 : Type 0 where
   pub new-chip : NewChips
   pub power-up : (s : State) → PowerUpRefusals s
   pub pass-time : (s : State) (n : ℕ) → TimeRefusals s n
-  pub run-frame : (wp : Bool) (f : List ℕ) (d : Device) (output : List ℕ) (number : ℕ) (after : Device) (shown : List ℕ)
-      (ran : FrameRun wp f d output number after shown) → FrameRefusals wp f d output number after shown ran
-  pub run-cut-frame : (wp : Bool) (f mask : List ℕ) (d : Device) (output : List ℕ) (number : ℕ) (after : Device) (shown : List ℕ)
-      (ran : CutRun wp f mask d output number after shown) → CutRefusals wp f mask d output number after shown ran
-  pub run-script : (wp : Bool) (script : List ℕ) (d : Device) (output : List ℕ) (ran : Ran) (after : Device) (shown : List ℕ) (bytes : Bytes script)
-      (runs : ScriptRun wp script d output ran after shown) → ScriptRefusals wp script d output ran after shown bytes runs
+  pub run-frame : (wp : Bool) (f : List ℕ) (d : Device) (line : Line) (number : ℕ) (after : Device) (shown : Line)
+      (ran : FrameRun wp f d line number after shown) → FrameRefusals wp f d line number after shown ran
+  pub run-cut-frame : (wp : Bool) (f mask : List ℕ) (d : Device) (line : Line) (number : ℕ) (after : Device) (shown : Line)
+      (ran : CutRun wp f mask d line number after shown) → CutRefusals wp f mask d line number after shown ran
+  pub run-script : (wp : Bool) (script : List ℕ) (d : Device) (line : Line) (ran : Ran) (after : Device) (shown : Line) (bytes : Bytes script)
+      (runs : ScriptRun wp script d line ran after shown) → ScriptRefusals wp script d line ran after shown bytes runs
   pub plan-update : (s : State) (wp : Bool) (array : List ℕ) (start : ℕ) (wanted buffer after : List ℕ) (planned : Planned) (bytes : Bytes wanted)
       (plans : PlanUpdated s wp array start wanted buffer after planned) → PlanRefusals s wp array start wanted buffer after planned bytes plans
   -- 12, 13, 14 and their offset (02, A1)
@@ -142,18 +146,18 @@ pub record StatesAsIn01 : Type 0 where
   pub setters : (chip bp : ℕ) (tb bpl wel aai armed asleep : Bool) (left next : ℕ) → Setters chip bp tb bpl wel aai armed asleep left next
 
 -- "For each frame, the output bytes, the chip's state and the whole array are those that the data sheets and the rules in 01 give": of an accepted one
-pub record FrameAsIn01 (wp : Bool) (f : List ℕ) (d : Device) (output : List ℕ) : Type 0 where
-  pub rules : FrameRules wp f d output
-  pub reads : Reads wp f d output
-  pub switches : Switches wp f d output
-  pub writes : Writes wp f d output
+pub record FrameAsIn01 (wp : Bool) (f : List ℕ) (d : Device) (line : Line) : Type 0 where
+  pub rules : FrameRules wp f d line
+  pub reads : Reads wp f d line
+  pub switches : Switches wp f d line
+  pub writes : Writes wp f d line
   -- no frame is left without a rule
   pub ruled : Ruled f d
   -- and of an interrupted one, from what the whole one does
-  pub interrupted : (shows : ℕ → ℕ) (registers : State) (change : Change) → Does wp f d output shows registers change
-      → (mask : List ℕ) → Bytes mask → cutNumber wp f mask d output ≡ 0 → Interrupted wp f mask d output shows registers change
-  pub wrong-mask : (shows : ℕ → ℕ) (registers : State) (change : Change) → Does wp f d output shows registers change
-      → (mask : List ℕ) → (length mask ≡ maskNeeded change d → ⊥) → cutNumber wp f mask d output ≡ 5
+  pub interrupted : (shows : ℕ → Shown) (registers : State) (change : Change) → Does wp f d line shows registers change
+      → (mask : List ℕ) → Bytes mask → cutNumber wp f mask d line ≡ 0 → Interrupted wp f mask d line shows registers change
+  pub wrong-mask : (shows : ℕ → Shown) (registers : State) (change : Change) → Does wp f d line shows registers change
+      → (mask : List ℕ) → (length mask ≡ maskNeeded change d → ⊥) → cutNumber wp f mask d line ≡ 5
 
 -- "The planner's script is exactly the one 01 describes, and running it does just what its records say."
 pub record ScriptsAsIn01 : Type 0 where
@@ -162,8 +166,8 @@ pub record ScriptsAsIn01 : Type 0 where
   pub accepted : (wp : Bool) (d : Device) → isSound (d .state) ≡ true → length (d .array) ≡ sizeOf d → ScriptRules wp d
   pub planned : (s : State) (wp : Bool) (array : List ℕ) (start : ℕ) (wanted buffer after : List ℕ) (planned : Planned)
       → PlanUpdated s wp array start wanted buffer after planned → planned .number ≡ 0 → PlanRules s array start wanted buffer after planned
-  pub run : (wp : Bool) (script : List ℕ) (d : Device) (output : List ℕ) (ran : Ran) (after : Device) (shown : List ℕ) → Bytes script
-      → ScriptRun wp script d output ran after shown → ran .number ≡ 0 → RunRules wp script d ran after shown
+  pub run : (wp : Bool) (script : List ℕ) (d : Device) (line : Line) (ran : Ran) (after : Device) (shown : Line) → Bytes script
+      → ScriptRun wp script d line ran after shown → ran .number ≡ 0 → RunRules wp script d ran after shown
   -- and program `play` prints what it does
   pub play : (script : List ℕ) → Bytes script → PlayRules script
 
@@ -173,8 +177,8 @@ pub record ScriptsAsIn01 : Type 0 where
 pub record NoCutHurts (wp : Bool) (chip : Device) (start : ℕ) (wanted : List ℕ) (room : ℕ) (script : List ℕ) : Type 0 where
   -- no call on the way is refused
   pub each-read : (at : ℕ) (met : Device) → SentTo wp script chip at met → numberOf (recordAt script at) ≡ 0
-  pub each-accepted : (at begin n next : ℕ) (met : Device) (output : List ℕ) → SentTo wp script chip at met → recordAt script at ≡ Frame begin n next
-      → length output ≡ n → frameNumber wp (take n (drop begin script)) met output ≡ 0
+  pub each-accepted : (at begin n next : ℕ) (met : Device) (line : Line) → SentTo wp script chip at met → recordAt script at ≡ Frame begin n next
+      → BothLong line n → frameNumber wp (take n (drop begin script)) met line ≡ 0
   -- "Cut the power between any two records, or inside any programming, with any part of the bits due to fall having fallen. Then each bit of the region
   -- is as before or as wanted, and nothing outside has moved."
   pub cut : (lost : Device) → CutAt wp script chip lost → Partway (chip .array) start wanted (lost .array)
@@ -189,7 +193,7 @@ pub record NoCutHurts (wp : Bool) (chip : Device) (start : ℕ) (wanted : List �
   -- "An uncut first run does so too": record by record,
   pub uncut : (at next : ℕ) (met : Device) → SentTo wp script chip at met → recordAt script at ≡ End next → met .array ≡ updated (chip .array) start wanted
   -- or by the call that runs a script
-  pub run-uncut : (output : List ℕ) (ran : Ran) (after : Device) (shown : List ℕ) → ScriptRun wp script chip output ran after shown → ran .number ≡ 0
+  pub run-uncut : (line : Line) (ran : Ran) (after : Device) (shown : Line) → ScriptRun wp script chip line ran after shown → ran .number ≡ 0
       → after .array ≡ updated (chip .array) start wanted
 
 -- ---- all of it
@@ -201,7 +205,7 @@ pub record Demands : Type 0 where
   pub refusals : RefusedAsIn01
   -- 2. "For each frame, the output bytes, the chip's state and the whole array are those that the data sheets and the rules in 01 give.
   pub states : StatesAsIn01
-  pub frames : (wp : Bool) (f : List ℕ) (d : Device) (output : List ℕ) → frameNumber wp f d output ≡ 0 → FrameAsIn01 wp f d output
+  pub frames : (wp : Bool) (f : List ℕ) (d : Device) (line : Line) → frameNumber wp f d line ≡ 0 → FrameAsIn01 wp f d line
   -- The planner's script is exactly the one 01 describes, and running it does just what its records say."
   pub scripts : ScriptsAsIn01
   -- 3. "Take a chip at rest, a wanted image and a plan accepted for them": no power cut can hurt
@@ -220,3 +224,5 @@ pub record Demands : Type 0 where
   pub salvage : SalvageRules
   -- (A7) "Flags by name, and back again."
   pub flags : FlagsRules
+  -- (A10) "Which bytes did the chip drive?"
+  pub driven : DrivenRules

@@ -8,6 +8,7 @@ use lib.ListN.{length, getD, take}
 use Rattle.common.specs.Bits.{Bytes}
 use Rattle.state.specs.declared.Planned.{Planned}
 use Rattle.frame.specs.Device.{Device}
+use Rattle.frame.specs.Line.{Line}
 use Rattle.script.specs.declared.reader.Found.the-variants.{End}
 use Rattle.script.specs.Reader.{recordAt}
 use Rattle.run.specs.declared.Ran.{Ran}
@@ -24,7 +25,7 @@ use Rattle.rules.specs.FlagsWanted.{sectorBytes, Member, NamesAre, GoodL
 -- sent to its end, record by record, or run by the call
 pub data Done (wp : Bool) (script : List ℕ) (chip : Device) : Device → Type 0 where
   sent : {at next : ℕ} {met : Device} → SentTo wp script chip at met → recordAt script at ≡ End next → Done wp script chip met
-  run : {output shown : List ℕ} {ran : Ran} {after : Device} → ScriptRun wp script chip output ran after shown → ran .number ≡ 0 → Done wp script chip after
+  run : {line shown : Line} {ran : Ran} {after : Device} → ScriptRun wp script chip line ran after shown → ran .number ≡ 0 → Done wp script chip after
 
 -- by a call that answers so: before and after it the buffer
 pub record Sent (Answers : List ℕ → List ℕ → Planned → Type 0) (wp : Bool) (chip done : Device) : Type 0 where

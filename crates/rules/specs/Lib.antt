@@ -22,6 +22,7 @@ pub mod Refusals
 pub mod Play
 pub mod Driver
 pub mod Unread
+pub mod Driven
 pub mod Worst
 pub mod Book
 pub mod Salvage

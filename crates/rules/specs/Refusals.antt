@@ -9,6 +9,7 @@ use Rattle.state.specs.declared.State.{State}
 use Rattle.state.specs.Power.{powerUp}
 use Rattle.state.specs.Time.{passTime}
 use Rattle.frame.specs.Device.{Device}
+use Rattle.frame.specs.Line.{Line}
 use Rattle.frame.specs.Call.{FrameRun, CutRun}
 use Rattle.run.specs.declared.Ran.{Ran}
 use Rattle.run.specs.Script.{ScriptRun}
@@ -46,29 +47,29 @@ pub record TimeRefusals (s : State) (n : ℕ) : Type 0 where
   pub refusal-keeps : 0 < passTime s n .number → passTime s n .state ≡ s
 
 -- a frame
-pub record FrameRefusals (wp : Bool) (f : List ℕ) (d : Device) (output : List ℕ) (number : ℕ) (after : Device) (outputAfter : List ℕ)
-    (run : FrameRun wp f d output number after outputAfter) : Type 0 where
+pub record FrameRefusals (wp : Bool) (f : List ℕ) (d : Device) (line : Line) (number : ℕ) (after : Device) (lineAfter : Line)
+    (run : FrameRun wp f d line number after lineAfter) : Type 0 where
   pub numbers : Numbered number
       (1 when NotSound (d .state)
       ∷ 2 when WrongArray (d .state) (d .array)
       ∷ 3 when WrongFrame f
-      ∷ 4 when WrongOutput f output
+      ∷ 4 when WrongOutput f line
       ∷ [])
   -- "A refusal changes no buffer and returns the given state"
-  pub refusal-keeps : 0 < number → (after ≡ d) × (outputAfter ≡ output)
+  pub refusal-keeps : 0 < number → (after ≡ d) × (lineAfter ≡ line)
 
 -- an interrupted frame
-pub record CutRefusals (wp : Bool) (f mask : List ℕ) (d : Device) (output : List ℕ) (number : ℕ) (after : Device) (outputAfter : List ℕ)
-    (run : CutRun wp f mask d output number after outputAfter) : Type 0 where
+pub record CutRefusals (wp : Bool) (f mask : List ℕ) (d : Device) (line : Line) (number : ℕ) (after : Device) (lineAfter : Line)
+    (run : CutRun wp f mask d line number after lineAfter) : Type 0 where
   pub numbers : Numbered number
       (1 when NotSound (d .state)
       ∷ 2 when WrongArray (d .state) (d .array)
       ∷ 3 when WrongFrame f
-      ∷ 4 when WrongOutput f output
+      ∷ 4 when WrongOutput f line
       ∷ 5 when WrongMask wp f mask d
       ∷ [])
   -- "A refusal changes no buffer and returns the given state"
-  pub refusal-keeps : 0 < number → (after ≡ d) × (outputAfter ≡ output)
+  pub refusal-keeps : 0 < number → (after ≡ d) × (lineAfter ≡ line)
 
 -- a plan
 pub record PlanRefusals (s : State) (wp : Bool) (array : List ℕ) (start : ℕ) (wanted buffer after : List ℕ) (planned : Planned) (bytes : Bytes wanted)
@@ -87,8 +88,8 @@ pub record PlanRefusals (s : State) (wp : Bool) (array : List ℕ) (start : ℕ)
       → (planned ≡ record { number = planned .number; state = s; length = 0; frames = 0; microseconds = 0 }) × (after ≡ buffer)
 
 -- a script: "checked 1, 2, 11, 12, 4" (01), and 12 split in three (02, A1)
-pub record ScriptRefusals (wp : Bool) (script : List ℕ) (d : Device) (output : List ℕ) (ran : Ran) (after : Device) (outputAfter : List ℕ) (bytes : Bytes script)
-    (run : ScriptRun wp script d output ran after outputAfter) : Type 0 where
+pub record ScriptRefusals (wp : Bool) (script : List ℕ) (d : Device) (line : Line) (ran : Ran) (after : Device) (lineAfter : Line) (bytes : Bytes script)
+    (run : ScriptRun wp script d line ran after lineAfter) : Type 0 where
   pub numbers : Numbered (ran .number)
       (1 when NotSound (d .state)
       ∷ 2 when WrongArray (d .state) (d .array)
@@ -96,10 +97,10 @@ pub record ScriptRefusals (wp : Bool) (script : List ℕ) (d : Device) (output :
       ∷ 12 when Bad script 12
       ∷ 13 when Bad script 13
       ∷ 14 when Bad script 14
-      ∷ 4 when WrongSum script output
+      ∷ 4 when WrongSum script line
       ∷ [])
   -- "A refusal changes no buffer and returns the given state, .. counts 0"; "nothing is run"
   pub refusal-keeps : 0 < ran .number
-      → (ran ≡ record { number = ran .number; state = d .state; frames = 0; microseconds = 0; offset = ran .offset }) × ((after ≡ d) × (outputAfter ≡ output))
+      → (ran ≡ record { number = ran .number; state = d .state; frames = 0; microseconds = 0; offset = ran .offset }) × ((after ≡ d) × (lineAfter ≡ line))
   -- "with the offset of the first bad record's mark"
   pub located : Located script (ran .number) (ran .offset)

@@ -12,6 +12,7 @@ use Rattle.state.specs.Soundness.{isSound}
 use Rattle.state.specs.Power.{newChip, powerUp}
 use Rattle.state.specs.Time.{passTime}
 use Rattle.frame.specs.Device.{Device}
+use Rattle.frame.specs.Line.{Line}
 use Rattle.frame.specs.Call.{FrameRun, CutRun}
 use Rattle.run.specs.declared.Ran.{Ran}
 use Rattle.run.specs.Script.{ScriptRun}
@@ -77,12 +78,12 @@ pub record EveryCallSound : Type 0 where
   pub new-chip : (number : ℕ) (answer : Answer) → answer ≡ newChip number → IsSound (answer .state)
   pub power-up : (s : State) (answer : Answer) → answer ≡ powerUp s → IsSound s → IsSound (answer .state)
   pub pass-time : (s : State) (n : ℕ) (answer : Answer) → answer ≡ passTime s n → IsSound s → IsSound (answer .state)
-  pub run-frame : (wp : Bool) (f : List ℕ) (d : Device) (output : List ℕ) (number : ℕ) (after : Device) (shown : List ℕ)
-      → FrameRun wp f d output number after shown → IsSound (d .state) → IsSound (after .state)
-  pub run-cut-frame : (wp : Bool) (f mask : List ℕ) (d : Device) (output : List ℕ) (number : ℕ) (after : Device) (shown : List ℕ)
-      → CutRun wp f mask d output number after shown → IsSound (d .state) → IsSound (after .state)
-  pub run-script : (wp : Bool) (script : List ℕ) (d : Device) (output : List ℕ) (ran : Ran) (after : Device) (shown : List ℕ)
-      → ScriptRun wp script d output ran after shown → IsSound (d .state) → IsSound (ran .state) × IsSound (after .state)
+  pub run-frame : (wp : Bool) (f : List ℕ) (d : Device) (line : Line) (number : ℕ) (after : Device) (shown : Line)
+      → FrameRun wp f d line number after shown → IsSound (d .state) → IsSound (after .state)
+  pub run-cut-frame : (wp : Bool) (f mask : List ℕ) (d : Device) (line : Line) (number : ℕ) (after : Device) (shown : Line)
+      → CutRun wp f mask d line number after shown → IsSound (d .state) → IsSound (after .state)
+  pub run-script : (wp : Bool) (script : List ℕ) (d : Device) (line : Line) (ran : Ran) (after : Device) (shown : Line)
+      → ScriptRun wp script d line ran after shown → IsSound (d .state) → IsSound (ran .state) × IsSound (after .state)
   pub plan-update : (s : State) (wp : Bool) (array : List ℕ) (start : ℕ) (wanted buffer after : List ℕ) (planned : Planned)
       → PlanUpdated s wp array start wanted buffer after planned → IsSound s → IsSound (planned .state)
   pub book-is-read : (s : State) (array : List ℕ) (sector scene : ℕ) (told : Told) → told ≡ isReadTold s array sector scene → IsSound s → IsSound (told .state)

@@ -8,6 +8,7 @@ use lib.ListN.{length}
 use Rattle.script.specs.Record.{frame, wait}
 use Rattle.script.specs.Decode.{recordsOf}
 use Rattle.frame.specs.Device.{Device}
+use Rattle.frame.specs.Line.{Line}
 use Rattle.frame.specs.Call.{frameNumber}
 use Rattle.run.specs.declared.Ran.{Ran}
 use Rattle.run.specs.Script.{ScriptRun}
@@ -28,8 +29,8 @@ isErasing f d = isResting (d .state) && isEraseOpen f d
 
 pub record UnreadRules : Type 0 where
   -- the promise's "erase frame is taken", of an accepted frame; a wait is none
-  pub erase-taken : (wp : Bool) (f : List ℕ) (d : Device) (output : List ℕ) → frameNumber wp f d output ≡ 0 → isEraseTaken wp (frame f) d ≡ isErasing f d
+  pub erase-taken : (wp : Bool) (f : List ℕ) (d : Device) (line : Line) → frameNumber wp f d line ≡ 0 → isEraseTaken wp (frame f) d ≡ isErasing f d
   pub wait-is-none : (wp : Bool) (n : ℕ) (d : Device) → isEraseTaken wp (wait n) d ≡ false
   -- "Say this of any accepted script, from any sound state, on every chip."
-  pub any-script : (wp : Bool) (script : List ℕ) (d : Device) (output : List ℕ) (ran : Ran) (after : Device) (shown : List ℕ)
-      → ScriptRun wp script d output ran after shown → ran .number ≡ 0 → NothingTurnsUnread wp (recordsOf script) d after
+  pub any-script : (wp : Bool) (script : List ℕ) (d : Device) (line : Line) (ran : Ran) (after : Device) (shown : Line)
+      → ScriptRun wp script d line ran after shown → ran .number ≡ 0 → NothingTurnsUnread wp (recordsOf script) d after

@@ -7,6 +7,7 @@ use state::State;
 ghost use mathlib.Core.Path.{_≡_};
 ghost use mathlib.Core.Bool.{cond};
 ghost use Rattle.frame.specs.Device.{device};
+ghost use Rattle.frame.specs.Line.{onLine};
 ghost use Rattle.script.specs.Survey.{surveyOf};
 ghost use Rattle.run.specs.Script.{scriptNumber, carriesOffset, ScriptRun};
 
@@ -38,9 +39,10 @@ fn script_number(
     script: &[u8],
     survey: Surveyed,
     output: &[u8],
+    driven: &[u8],
 ) -> u32
     requires { ⌜ survey ≡ surveyOf (now script) ⌝ }
-    ensures { λ r. ⌜ r ≡ scriptNumber wp (now (script .entry)) (device s (now (array .entry))) (now (output .entry)) ⌝ }
+    ensures { λ r. ⌜ r ≡ scriptNumber wp (now (script .entry)) (device s (now (array .entry))) (onLine (now (output .entry)) (now (driven .entry))) ⌝ }
 {
     if !state::soundness::is_sound(s) {
         return refusals::STATE_NOT_SOUND;
@@ -51,7 +53,7 @@ fn script_number(
     if survey.number != 0 {
         return survey.number;
     }
-    if output.len() != survey.output {
+    if (output.len() != survey.output) | (driven.len() != survey.output) {
         return refusals::WRONG_OUTPUT;
     }
     0
@@ -69,11 +71,18 @@ fn script_offset(number: u32, survey: Surveyed) -> usize
 }
 
 // Run a script, with one WP level for all its frames. Every record is checked before the first is run.
-pub fn run_script(s: State, wp: bool, array: &mut [u8], script: &[u8], output: &mut [u8]) -> Ran
-    ensures { λ r. ⌜ ScriptRun wp (now (script .entry)) (device s (now (array .entry))) (now (output .entry)) r (device (r .state) (now (array .exit))) (now (output .exit)) ⌝ }
+pub fn run_script(
+    s: State,
+    wp: bool,
+    array: &mut [u8],
+    script: &[u8],
+    output: &mut [u8],
+    driven: &mut [u8],
+) -> Ran
+    ensures { λ r. ⌜ ScriptRun wp (now (script .entry)) (device s (now (array .entry))) (onLine (now (output .entry)) (now (driven .entry))) r (device (r .state) (now (array .exit))) (onLine (now (output .exit)) (now (driven .exit))) ⌝ }
 {
     let survey = script::survey::survey_of(script);
-    let number = script_number(s, wp, array, script, survey, output);
+    let number = script_number(s, wp, array, script, survey, output, driven);
     if number != 0 {
         return Ran {
             number,
@@ -83,7 +92,7 @@ pub fn run_script(s: State, wp: bool, array: &mut [u8], script: &[u8], output: &
             offset: script_offset(number, survey),
         };
     }
-    let state = records::run_records(s, wp, array, script, output);
+    let state = records::run_records(s, wp, array, script, output, driven);
     Ran {
         number: 0,
         state,

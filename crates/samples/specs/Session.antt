@@ -10,6 +10,7 @@ use Rattle.state.specs.State.{dataOf}
 use Rattle.state.specs.Protection.{firstProtected}
 use Rattle.state.specs.Time.{passTime}
 use Rattle.frame.specs.Device.{Device, device, withState}
+use Rattle.frame.specs.Line.{Line, onLine, Long}
 use Rattle.frame.specs.Ran.{ranDevice}
 use Rattle.frame.specs.Call.{FrameRun}
 use Rattle.script.specs.Record.{encode, framesIn, microsecondsIn}
@@ -17,8 +18,8 @@ use Rattle.plan.specs.Refusals.{planRefusal}
 use Rattle.plan.specs.Update.{givenRecords}
 
 pub data Step : Type 0 where
-  -- a frame, and its whole output
-  send : List ℕ → List ℕ → Step
+  -- a frame, the whole output, and which of its bytes are driven
+  send : List ℕ → List ℕ → List ℕ → Step
   -- so many microseconds pass
   pass : ℕ → Step
   -- the array's byte at an address
@@ -28,11 +29,11 @@ pub data Step : Type 0 where
   -- a plan: start, wanted bytes, room; its script, frames and microseconds
   plans : ℕ → List ℕ → ℕ → List ℕ → ℕ → ℕ → Step
 
--- by the public calls' own statements; a frame's output buffer is any of the frame's length
+-- by the public calls' own statements; a frame's lent line is any of the frame's length
 abbrev pub Runs : Device → List Step → Type 0
 Runs d [] = Unit {0}
-Runs d (send f output ∷ steps) =
-    ((buffer : List ℕ) → length buffer ≡ length f → FrameRun true f d buffer 0 (ranDevice true f d) output) × Runs (ranDevice true f d) steps
+Runs d (send f output driven ∷ steps) =
+    ((lent : Line) → Long (length f) lent → FrameRun true f d lent 0 (ranDevice true f d) (onLine output driven)) × Runs (ranDevice true f d) steps
 Runs d (pass n ∷ steps) = (passTime (d .state) n .number ≡ 0) × Runs (withState d (passTime (d .state) n .state)) steps
 Runs d (byteIs address byte ∷ steps) = (getD (d .array) address 0 ≡ byte) × Runs d steps
 Runs d (protects address answer ∷ steps) = (leb (firstProtected (d .state)) address ≡ answer) × Runs d steps

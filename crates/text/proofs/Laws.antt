@@ -1,3 +1,4 @@
 pub mod Decimal
+pub mod Shown
 pub mod Text
 pub mod Writing

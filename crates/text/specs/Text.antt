@@ -2,7 +2,7 @@
 use mathlib.Core.Bool.{cond}
 use mathlib.Core.List.{List, [], _∷_, _++_}
 use Prim.Native.Nat.{ℕ, zero, suc, _+_, _-_, _*_, _/_, _%_, _≤_}
-use lib.Dec.{ltb}
+use lib.Dec.{eqb, ltb}
 
 -- a digit below 16, in "capital hex": 0 to 9, then A to F
 unfoldable pub digit : ℕ → ℕ
@@ -16,6 +16,20 @@ pair byte = digit (byte / 16) ∷ digit (byte % 16) ∷ []
 unfoldable pub hex : List ℕ → List ℕ
 hex [] = []
 hex (byte ∷ bytes) = pair byte ++ hex bytes
+
+-- "two dashes for a silent byte" (02, A10)
+abbrev pub dashes : List ℕ
+dashes = 0x2d ∷ 0x2d ∷ []
+
+-- a byte as the line showed it: its two digits where it was driven, else dashes
+abbrev pub shownPair : ℕ → ℕ → List ℕ
+shownPair byte driven = cond (eqb driven 0) dashes (pair byte)
+
+-- bytes, and for each whether it was driven: each so, without gaps
+unfoldable pub shownHex : List ℕ → List ℕ → List ℕ
+shownHex [] driven = []
+shownHex (byte ∷ bytes) [] = []
+shownHex (byte ∷ bytes) (d ∷ ds) = shownPair byte d ++ shownHex bytes ds
 
 -- a number in at most so many digits: the last one, behind the others where there are any
 unfoldable pub decimalWithin : ℕ → ℕ → List ℕ

@@ -5,7 +5,7 @@ ghost use Prim.Native.Nat.{_+_, _≤_, _<_};
 ghost use lib.ListN.{length};
 ghost use Rattle.common.specs.Buffer.{Put};
 ghost use Rattle.common.specs.Lists.{Each};
-ghost use Rattle.text.specs.Text.{digit, pair, hex, decimalEnd, decimal, spaced, decimals, line, decimalsLine};
+ghost use Rattle.text.specs.Text.{digit, pair, hex, shownPair, shownHex, decimalEnd, decimal, spaced, decimals, line, decimalsLine};
 
 // What ends a line.
 const LINE_FEED: u8 = b'\n';
@@ -39,6 +39,32 @@ fn put_hex(bytes: &[u8], text: &mut [u8], at: usize) -> usize
     let mut i: usize = 0;
     while i < bytes.len() {
         next = put_pair(bytes[i], text, next);
+        i += 1;
+    }
+    next
+}
+
+// A byte as the line showed it: two dashes where nothing drove it.
+fn put_shown_pair(byte: u8, driven: u8, text: &mut [u8], at: usize) -> usize
+    requires { ⌜ at + 2 ≤ length (now text) ⌝ }
+    ensures { λ r. ⌜ Put at (shownPair byte driven) (now (text .entry)) (now (text .exit)) r ⌝ }
+{
+    if driven == 0 {
+        return put(&[b'-', b'-'], text, at);
+    }
+    put_pair(byte, text, at)
+}
+
+// Each byte so, without gaps.
+fn put_shown(bytes: &[u8], driven: &[u8], text: &mut [u8], at: usize) -> usize
+    requires { ⌜ length (now driven) ≡ length (now bytes) ⌝ }
+    requires { ⌜ at + length (shownHex (now bytes) (now driven)) ≤ length (now text) ⌝ }
+    ensures { λ r. ⌜ Put at (shownHex (now (bytes .entry)) (now (driven .entry))) (now (text .entry)) (now (text .exit)) r ⌝ }
+{
+    let mut next = at;
+    let mut i: usize = 0;
+    while i < bytes.len() {
+        next = put_shown_pair(bytes[i], driven[i], text, next);
         i += 1;
     }
     next
@@ -89,6 +115,17 @@ pub fn put_hex_line(letter: u8, bytes: &[u8], text: &mut [u8], at: usize) -> usi
 {
     let begun = put(&[letter, b' '], text, at);
     let told = put_hex(bytes, text, begun);
+    put(&[LINE_FEED], text, told)
+}
+
+// A letter and the bytes that the line showed, some of them silent.
+pub fn put_shown_line(letter: u8, bytes: &[u8], driven: &[u8], text: &mut [u8], at: usize) -> usize
+    requires { ⌜ length (now driven) ≡ length (now bytes) ⌝ }
+    requires { ⌜ at + length (line letter (shownHex (now bytes) (now driven))) ≤ length (now text) ⌝ }
+    ensures { λ r. ⌜ Put at (line letter (shownHex (now (bytes .entry)) (now (driven .entry)))) (now (text .entry)) (now (text .exit)) r ⌝ }
+{
+    let begun = put(&[letter, b' '], text, at);
+    let told = put_shown(bytes, driven, text, begun);
     put(&[LINE_FEED], text, told)
 }
 

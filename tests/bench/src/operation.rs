@@ -21,6 +21,7 @@ pub enum Operation {
         array: Vec<u8>,
         frame: Vec<u8>,
         output: Vec<u8>,
+        driven: Vec<u8>,
         number: u32,
     },
     Plan {
@@ -35,6 +36,7 @@ pub enum Operation {
         array: Vec<u8>,
         script: Vec<u8>,
         output: Vec<u8>,
+        driven: Vec<u8>,
     },
     /// `value` is what it has to be answered with.
     IsRead {
@@ -135,16 +137,17 @@ fn writing(chip: u8) -> State {
 fn frame(state: State, size: usize, head: &[u8], length: usize) -> Operation {
     let mut frame = head.to_vec();
     frame.resize(length, 0x3C);
-    Operation::Frame { state, array: vec![0xFF; size], frame, output: vec![0; length], number: 0 }
+    let (output, driven) = (vec![0; length], vec![0; length]);
+    Operation::Frame { state, array: vec![0xFF; size], frame, output, driven, number: 0 }
 }
 
 /// The same frame with an output one byte too short (01's refusal 4).
 fn refused(operation: Operation) -> Operation {
-    let Operation::Frame { state, array, frame, mut output, .. } = operation else {
+    let Operation::Frame { state, array, frame, mut output, driven, .. } = operation else {
         return operation;
     };
     output.pop();
-    Operation::Frame { state, array, frame, output, number: 4 }
+    Operation::Frame { state, array, frame, output, driven, number: 4 }
 }
 
 /// Every second word changes, so each is a run of its own, and all is protected. An odd start
@@ -221,7 +224,8 @@ fn run(plan: Operation) -> Operation {
         outputs += record.length;
         at = record.next;
     }
-    Operation::Run { state, array, script: buffer, output: vec![0; outputs] }
+    let (output, driven) = (vec![0; outputs], vec![0; outputs]);
+    Operation::Run { state, array, script: buffer, output, driven }
 }
 
 /// The cheapest frame in as many records, so that a record's own cost shows.
@@ -232,6 +236,7 @@ fn status_reads() -> Operation {
         array: vec![0xFF; SIZE_008A],
         script,
         output: vec![0; 2_000],
+        driven: vec![0; 2_000],
     }
 }
 
@@ -239,7 +244,8 @@ fn status_reads() -> Operation {
 /// that no conversion is measured with them.
 pub trait Subject: Calls {
     type Chip: From<State> + Copy;
-    fn send(chip: &mut Self::Chip, array: &mut [u8], frame: &[u8], output: &mut [u8]) -> u32;
+    /// The frame, and the output with what is driven of it.
+    fn send(chip: &mut Self::Chip, array: &mut [u8], frame: &[u8], line: [&mut [u8]; 2]) -> u32;
     /// The number and the value; so the next.
     fn is_read(chip: Self::Chip, array: &[u8], sector: usize, scene: u32) -> (u32, u32);
     fn count(chip: Self::Chip, array: &[u8], sector: usize) -> (u32, u32);
@@ -249,8 +255,9 @@ pub trait Subject: Calls {
 impl Subject for Library {
     type Chip = zeradok::Chip;
 
-    fn send(chip: &mut Self::Chip, array: &mut [u8], frame: &[u8], output: &mut [u8]) -> u32 {
-        chip.frame(black_box(true), array, frame, output)
+    fn send(chip: &mut Self::Chip, array: &mut [u8], frame: &[u8], line: [&mut [u8]; 2]) -> u32 {
+        let [output, driven] = line;
+        chip.frame(black_box(true), array, frame, output, driven)
     }
 
     fn is_read(chip: Self::Chip, array: &[u8], sector: usize, scene: u32) -> (u32, u32) {
@@ -269,8 +276,9 @@ impl Subject for Library {
 impl Subject for Model {
     type Chip = State;
 
-    fn send(chip: &mut Self::Chip, array: &mut [u8], frame: &[u8], output: &mut [u8]) -> u32 {
-        <Model>::frame(chip, black_box(true), array, frame, output)
+    fn send(chip: &mut Self::Chip, array: &mut [u8], frame: &[u8], line: [&mut [u8]; 2]) -> u32 {
+        let [output, driven] = line;
+        <Model>::frame(chip, black_box(true), array, frame, output, driven)
     }
 
     fn is_read(chip: Self::Chip, array: &[u8], sector: usize, scene: u32) -> (u32, u32) {
@@ -293,12 +301,13 @@ impl Operation {
     /// Does it so many times; each has to be answered as it must be.
     pub fn repeat<S: Subject>(&mut self, times: u32) {
         match self {
-            Operation::Frame { state, array, frame, output, number } => {
+            Operation::Frame { state, array, frame, output, driven, number } => {
                 let at_first = S::Chip::from(*state);
                 for _ in 0..times {
                     let mut chip = black_box(at_first);
-                    let (array, output) = (black_box(&mut array[..]), black_box(&mut output[..]));
-                    let given = S::send(&mut chip, array, black_box(&frame[..]), output);
+                    let array = black_box(&mut array[..]);
+                    let line = [black_box(&mut output[..]), black_box(&mut driven[..])];
+                    let given = S::send(&mut chip, array, black_box(&frame[..]), line);
                     assert_eq!(given, *number);
                     black_box(&mut chip);
                 }
@@ -311,10 +320,11 @@ impl Operation {
                     assert_eq!(planned.number, 0);
                 }
             }
-            Operation::Run { state, array, script, output } => {
+            Operation::Run { state, array, script, output, driven } => {
                 for _ in 0..times {
-                    let (array, output) = (black_box(&mut array[..]), black_box(&mut output[..]));
-                    let ran = S::run(black_box(*state), true, array, black_box(script), output);
+                    let (state, array) = (black_box(*state), black_box(&mut array[..]));
+                    let (output, driven) = (black_box(&mut output[..]), black_box(&mut driven[..]));
+                    let ran = S::run(state, true, array, black_box(script), output, driven);
                     assert_eq!(ran.number, 0);
                 }
             }

@@ -147,7 +147,7 @@ fn lengthened(script: &[u8]) -> Vec<u8> {
     long
 }
 
-/// Whether a run is refused for it, whatever the output's length, but not where 1, 2 or 11 hold;
+/// Whether a run is refused for it, whatever the slices' lengths, but not where 1, 2 or 11 hold;
 /// and changes nothing.
 fn is_refused<C: Calls>(chip: &mut Chip<C>, script: &Script) -> bool {
     let Script { bytes, offset, number, output } = script;
@@ -156,11 +156,14 @@ fn is_refused<C: Calls>(chip: &mut Chip<C>, script: &Script) -> bool {
     let size = chip.array.len();
     let long = lengthened(bytes);
     let mut is = |number: u32, offset: usize, state: State, array: usize, script: &[u8]| {
-        [*output, 0, output + 1, bytes.len()].into_iter().all(|length| {
-            let mut shown = vec![0xA5; length];
-            let ran = C::run(state, true, &mut chip.array[..array], script, &mut shown);
+        let lengths = [*output, 0, output + 1, bytes.len()];
+        let pairs = lengths.into_iter().flat_map(|first| lengths.map(|second| [first, second]));
+        pairs.into_iter().all(|pair| {
+            let mut slices = pair.map(|length| vec![0xA5; length]);
+            let [shown, driven] = &mut slices;
+            let ran = C::run(state, true, &mut chip.array[..array], script, shown, driven);
             ran == Ran { number, state, frames: 0, microseconds: 0, offset }
-                && shown.iter().all(|byte| *byte == 0xA5)
+                && slices.iter().flatten().all(|byte| *byte == 0xA5)
         })
     };
     is(*number, *offset, sound, size, bytes)

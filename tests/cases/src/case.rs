@@ -13,10 +13,10 @@ pub enum Case {
     New { chip: u8 },
     PowerUp { state: State },
     Wait { state: State, microseconds: u32 },
-    Frame { on: On, frame: Vec<u8>, output: usize },
-    Cut { on: On, frame: Vec<u8>, output: usize, mask: Mask },
+    Frame { on: On, frame: Vec<u8>, line: Line },
+    Cut { on: On, frame: Vec<u8>, line: Line, mask: Mask },
     Plan { on: On, start: usize, wanted: Vec<u8>, room: usize },
-    Run { on: On, script: Vec<u8>, output: usize },
+    Run { on: On, script: Vec<u8>, line: Line },
     Survey { script: Vec<u8> },
     Read { script: Vec<u8>, offset: usize },
     BookIsRead { on: On, sector: usize, scene: u32 },
@@ -35,6 +35,19 @@ pub struct On {
     /// Whose array is lent, and how much of it.
     pub array_of: u8,
     pub array: usize,
+}
+
+/// How long the two slices are in which a call shows the frames' bytes.
+#[derive(Clone, Copy, Debug, PartialEq, Eq)]
+pub struct Line {
+    pub output: usize,
+    pub driven: usize,
+}
+
+/// What is lent to be written beside the array. A call that shows no frames leaves `driven` alone.
+pub struct Slices<'a> {
+    pub buffer: &'a mut [u8],
+    pub driven: &'a mut [u8],
 }
 
 /// A mask; a long one is given by a formula, so that it can be printed.
@@ -59,6 +72,13 @@ pub enum Outcome {
 impl On {
     pub fn new(state: State, wp_high: bool) -> Self {
         Self { state, wp_high, array_of: state.chip, array: size(state.chip) }
+    }
+}
+
+impl Line {
+    /// Both as long as what is shown.
+    pub fn of(length: usize) -> Self {
+        Self { output: length, driven: length }
     }
 }
 
@@ -151,38 +171,52 @@ impl Case {
         }
     }
 
-    /// How long the buffer to be written is.
-    pub fn buffer(&self) -> usize {
+    /// The two slices, if it shows frames.
+    pub fn line(&self) -> Option<Line> {
         match self {
-            Case::Frame { output, .. } | Case::Cut { output, .. } | Case::Run { output, .. } => {
-                *output
+            Case::Frame { line, .. } | Case::Cut { line, .. } | Case::Run { line, .. } => {
+                Some(*line)
             }
-            Case::Plan { room, .. } | Case::BookMark { room, .. } => *room,
-            _ => 0,
+            _ => None,
         }
     }
 
-    pub fn run<C: Calls>(&self, array: &mut [u8], buffer: &mut [u8]) -> Outcome {
+    /// How long the buffer to be written is, which is the output's where frames are shown.
+    pub fn buffer(&self) -> usize {
+        match self {
+            Case::Plan { room, .. } | Case::BookMark { room, .. } => *room,
+            _ => self.line().map_or(0, |line| line.output),
+        }
+    }
+
+    /// How long the second slice is, where frames are shown.
+    pub fn driven(&self) -> usize {
+        self.line().map_or(0, |line| line.driven)
+    }
+
+    pub fn run<C: Calls>(&self, array: &mut [u8], lent: Slices) -> Outcome {
+        let Slices { buffer, driven } = lent;
         match self {
             Case::New { chip } => Outcome::Answer(C::new_chip(*chip)),
             Case::PowerUp { state } => Outcome::Answer(C::power_up(*state)),
             Case::Wait { state, microseconds } => Outcome::Answer(C::wait(*state, *microseconds)),
             Case::Frame { on, frame, .. } => {
                 let mut state = on.state;
-                let number = C::frame(&mut state, on.wp_high, array, frame, buffer);
+                let number = C::frame(&mut state, on.wp_high, array, frame, buffer, driven);
                 Outcome::Frame { number, state }
             }
             Case::Cut { on, frame, mask, .. } => {
                 let mut state = on.state;
                 let mask = mask.bytes();
-                let number = C::cut_frame(&mut state, on.wp_high, array, frame, buffer, &mask);
+                let number =
+                    C::cut_frame(&mut state, on.wp_high, array, frame, buffer, driven, &mask);
                 Outcome::Frame { number, state }
             }
             Case::Plan { on, start, wanted, .. } => {
                 Outcome::Planned(C::plan(on.state, on.wp_high, array, *start, wanted, buffer))
             }
             Case::Run { on, script, .. } => {
-                Outcome::Ran(C::run(on.state, on.wp_high, array, script, buffer))
+                Outcome::Ran(C::run(on.state, on.wp_high, array, script, buffer, driven))
             }
             Case::Survey { script } => Outcome::Surveyed(C::survey(script)),
             Case::Read { script, offset } => Outcome::Record(C::read(script, *offset)),

@@ -2,9 +2,12 @@
 
 use std::marker::PhantomData;
 
-use model::{Calls, State};
+use model::{Calls, Ran, State};
 
-use crate::size;
+use crate::{listing, size};
+
+/// What stands in a slice before a call: nothing that a call writes there.
+const UNTOUCHED: u8 = 0xA5;
 
 /// A chip with an erased array.
 pub struct Chip<C> {
@@ -25,11 +28,33 @@ impl<C: Calls> Chip<C> {
         new
     }
 
-    pub fn send(&mut self, frame: &[u8]) -> Vec<u8> {
-        let mut output = vec![0; frame.len()];
-        let number = C::frame(&mut self.state, true, &mut self.array, frame, &mut output);
-        assert_eq!(number, 0, "a frame that is written out was refused");
-        output
+    /// Sends a frame: whether this is shown, written as `play` prints it.
+    pub fn shows(&mut self, frame: &[u8], listing: &str) -> bool {
+        self.send(frame) == Some(listing::slices(listing))
+    }
+
+    /// Sends a frame: whether nothing is driven.
+    pub fn is_silent(&mut self, frame: &[u8]) -> bool {
+        self.send(frame) == Some((vec![0xFF; frame.len()], vec![0; frame.len()]))
+    }
+
+    /// Both slices behind a frame; none if it is refused.
+    fn send(&mut self, frame: &[u8]) -> Option<(Vec<u8>, Vec<u8>)> {
+        let mut output = vec![UNTOUCHED; frame.len()];
+        let mut driven = output.clone();
+        let Self { state, array, .. } = self;
+        let number = C::frame(state, true, array, frame, &mut output, &mut driven);
+        (number == 0).then_some((output, driven))
+    }
+
+    /// What a run of a script answers, from the chip's state, which stays; none if a byte is driven,
+    /// as none is in a plan's frames.
+    pub fn run_silent(&mut self, wp_high: bool, script: &[u8]) -> Option<Ran> {
+        let length = C::survey(script).output;
+        let mut output = vec![UNTOUCHED; length];
+        let mut driven = output.clone();
+        let ran = C::run(self.state, wp_high, &mut self.array, script, &mut output, &mut driven);
+        (output == vec![0xFF; length] && driven == vec![0; length]).then_some(ran)
     }
 
     pub fn wait(&mut self, microseconds: u32) {

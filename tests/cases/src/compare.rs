@@ -2,18 +2,16 @@
 
 use model::{Calls, Model};
 
-use crate::board::{Board, MARGIN};
+use crate::board::Board;
 use crate::case::{Case, Outcome};
 use crate::generator::{Generator, Item};
 use crate::literal;
+use crate::side::{Run, Side, Written};
 use crate::sweep::Sweep;
 use crate::Rng;
 
 /// The arrays are compared whole after this many cases; near each case's windows always.
 const WHOLE_EVERY: usize = 128;
-
-/// Somebody's call of a case.
-type Run = fn(&Case, &mut [u8], &mut [u8]) -> Outcome;
 
 /// A case in which the other side answered otherwise, or was found to have changed what it must
 /// not.
@@ -25,11 +23,11 @@ pub struct Difference {
 }
 
 /// Goes through the sweep and so many random cases up to the first difference. `note` sees each
-/// case that went well, its outcome and what was written to its buffer.
+/// case that went well, its outcome and what it wrote.
 pub fn explore<R: Calls>(
     seed: u64,
     cases: usize,
-    mut note: impl FnMut(&Item, &Outcome, &[u8]),
+    mut note: impl FnMut(&Item, &Outcome, Written),
 ) -> Result<(), Difference> {
     go(Case::run::<R>, seed, Sweep::length() + cases, usize::MAX, &mut note)
 }
@@ -63,14 +61,14 @@ fn go(
     seed: u64,
     total: usize,
     closely_from: usize,
-    note: &mut dyn FnMut(&Item, &Outcome, &[u8]),
+    note: &mut dyn FnMut(&Item, &Outcome, Written),
 ) -> Result<(), Difference> {
     let mut comparison = Comparison::new(seed);
     for index in 0..total {
         let item = comparison.generator.next(&mut comparison.board);
         let difference = |what| Difference { seed, index, call: item.case.call(), what };
         let outcome = comparison.compare(other, &item.case, index).map_err(difference)?;
-        note(&item, &outcome, comparison.buffer(&item.case));
+        note(&item, &outcome, comparison.sides[0].written(&item.case));
         if index % WHOLE_EVERY == 0 || index >= closely_from || index + 1 == total {
             if let Some((chip, at)) = comparison.board.difference() {
                 return Err(difference(format!("the array of chip {chip} at {at:#X}")));
@@ -83,8 +81,10 @@ fn go(
 struct Comparison {
     board: Board,
     generator: Generator,
-    /// Each side's buffer for outputs and scripts, with margins.
-    buffers: [Vec<u8>; 2],
+    /// The right model's and the other's.
+    sides: [Side; 2],
+    /// What stood in both before the call.
+    before: Side,
 }
 
 impl Comparison {
@@ -93,65 +93,53 @@ impl Comparison {
         Self {
             board: Board::new(&mut rng),
             generator: Generator::new(rng),
-            buffers: [Vec::new(), Vec::new()],
+            sides: Default::default(),
+            before: Side::default(),
         }
     }
 
     /// Makes the call on both sides; what differs, if anything does.
     fn compare(&mut self, other: Run, case: &Case, index: usize) -> Result<Outcome, String> {
-        let length = case.buffer();
-        let untouched = 0xA5 ^ index as u8;
-        for buffer in &mut self.buffers {
-            buffer.clear();
-            buffer.resize(length + 2 * MARGIN, untouched);
-        }
-        let [left, right] = &mut self.buffers;
-        let (left_lent, right_lent) =
-            (&mut left[MARGIN..][..length], &mut right[MARGIN..][..length]);
+        self.before.fill(case, index);
+        self.sides.iter_mut().for_each(|side| side.copy_from(&self.before));
+        let [left, right] = &mut self.sides;
         let (outcome, other_outcome) = match case.on() {
             Some(on) => {
                 let (left_array, right_array) = self.board.of(on.array_of).lent(on.array);
-                (case.run::<Model>(left_array, left_lent), other(case, right_array, right_lent))
+                (
+                    left.call(Case::run::<Model>, case, left_array),
+                    right.call(other, case, right_array),
+                )
             }
-            None => (case.run::<Model>(&mut [], left_lent), other(case, &mut [], right_lent)),
+            None => {
+                (left.call(Case::run::<Model>, case, &mut []), right.call(other, case, &mut []))
+            }
         };
         if outcome != other_outcome {
             return Err(format!("answer {other_outcome:?}\nright  {outcome:?}"));
         }
-        if left != right {
-            let at = left.iter().zip(&*right).position(|(l, r)| l != r).unwrap_or(0);
-            let (byte, right_byte) = (right[at], left[at]);
-            let at = at as isize - MARGIN as isize;
-            return Err(format!("buffer byte {at}: {byte:#04X}, right {right_byte:#04X}"));
+        if let Some(what) =
+            right.difference(left).or_else(|| left.wrong(&self.before, case, &outcome))
+        {
+            return Err(what);
         }
-        let written = match &outcome {
-            _ if outcome.number() != 0 => 0,
-            Outcome::Planned(planned) => planned.length as usize,
-            _ => length,
-        };
-        if left[MARGIN + written..].iter().any(|byte| *byte != untouched) {
-            return Err("both sides wrote where nothing is to be written".into());
+        if let Some(at) = self.array_difference(case) {
+            return Err(format!("the array at {at:#X}"));
         }
-        if let Some(on) = case.on() {
-            let twins = self.board.of(on.array_of);
-            let at = match case {
-                Case::Run { .. } => twins.difference(),
-                _ => case
-                    .windows()
-                    .iter()
-                    .filter(|window| window.end <= twins.array().len())
-                    .find_map(|window| twins.difference_near(window)),
-            };
-            if let Some(at) = at {
-                return Err(format!("the array at {at:#X}"));
-            }
-        }
-        self.generator.learn(case, &outcome, &self.buffers[0][MARGIN..][..length]);
+        self.generator.learn(case, &outcome, self.sides[0].written(case).buffer);
         Ok(outcome)
     }
 
-    /// What the last case wrote.
-    fn buffer(&self, case: &Case) -> &[u8] {
-        &self.buffers[0][MARGIN..][..case.buffer()]
+    /// The first address at which the arrays differ where the case could have changed them.
+    fn array_difference(&mut self, case: &Case) -> Option<isize> {
+        let twins = self.board.of(case.on()?.array_of);
+        match case {
+            Case::Run { .. } => twins.difference(),
+            _ => case
+                .windows()
+                .iter()
+                .filter(|window| window.end <= twins.array().len())
+                .find_map(|window| twins.difference_near(window)),
+        }
     }
 }

@@ -3,7 +3,7 @@
 use model::{Calls, Model, State, LONGEST_FRAME};
 
 use crate::board::Board;
-use crate::case::{Case, Mask, On, Outcome};
+use crate::case::{Case, Line, Mask, On, Outcome};
 use crate::frames::{self, FATES};
 use crate::spoil::{self, Planted};
 use crate::sweep::Sweep;
@@ -94,7 +94,7 @@ impl Generator {
             self.follow_up = Some(Case::Run {
                 on: on.clone(),
                 script: script.to_vec(),
-                output: scripts::frame_bytes(script),
+                line: Line::of(scripts::frame_bytes(script)),
             });
         }
     }
@@ -156,10 +156,10 @@ impl Generator {
                 frame.resize(length, 0);
             }
         }
-        let mut output = frame.len();
+        let mut line = Line::of(frame.len());
         if spoils && rng.one_in(3) {
             planted.plant(4);
-            output = spoil::other_length(rng, output);
+            line = spoil::line(rng, frame.len());
         }
         let case = if cut {
             let mut length = if frame.is_empty() {
@@ -172,9 +172,9 @@ impl Generator {
                 length = spoil::other_length(rng, length);
             }
             let mask = mask(rng, length);
-            Case::Cut { on, frame, output, mask }
+            Case::Cut { on, frame, line, mask }
         } else {
-            Case::Frame { on, frame, output }
+            Case::Frame { on, frame, line }
         };
         for window in case.windows() {
             board.of(chip).dress(&window, rng);
@@ -258,12 +258,13 @@ impl Generator {
             spoil::chip(rng, &mut on, &mut planted);
             spoil::script(rng, &mut script, &mut planted);
         }
-        let mut output = scripts::frame_bytes(&script);
+        let length = scripts::frame_bytes(&script);
+        let mut line = Line::of(length);
         if spoils && rng.coin() {
             planted.plant(4);
-            output = spoil::other_length(rng, output);
+            line = spoil::line(rng, length);
         }
-        let case = Case::Run { on, script, output };
+        let case = Case::Run { on, script, line };
         Item::new(case, planted)
     }
 

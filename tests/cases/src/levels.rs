@@ -36,17 +36,17 @@ fn erases<C: Calls>(chip: u8, bp: u8, address: usize) -> Option<bool> {
     const TIME: u32 = 90_000;
     let mut chip = Chip::<C>::new(chip);
     chip.array.fill(0);
-    chip.send(&[0x06]);
-    chip.send(&[0x01, bp << 2]);
-    chip.send(&[0x06]);
+    let ready =
+        chip.is_silent(&[0x06]) && chip.is_silent(&[0x01, bp << 2]) && chip.is_silent(&[0x06]);
     let ignored = State { armed: false, ..chip.state };
     let taken = State { left: TIME, ..ignored };
     let mut erased = chip.array.clone();
     erased[address / SECTOR * SECTOR..][..SECTOR].fill(0xFF);
 
     let [_, high, middle, low] = (address as u32).to_be_bytes();
-    chip.send(&[0x20, high, middle, low]);
-    if chip.state == ignored && chip.array.iter().all(|byte| *byte == 0) {
+    if !ready || !chip.is_silent(&[0x20, high, middle, low]) {
+        None
+    } else if chip.state == ignored && chip.array.iter().all(|byte| *byte == 0) {
         Some(false)
     } else {
         (chip.state == taken && chip.array == erased).then_some(true)
@@ -59,12 +59,12 @@ fn is_refused<C: Calls>(chip: u8, bp: u8) -> bool {
     chip.state.bp = bp;
     let given = chip.state;
     let (mut whole, mut cut) = (given, given);
-    let (mut output, mut buffer) = ([0xA5; 4], [0xA5; 64]);
-    let erase = [0x20, 0, 0, 0];
-    let frame = C::frame(&mut whole, true, &mut chip.array, &erase, &mut output);
-    let cut_frame = C::cut_frame(&mut cut, true, &mut chip.array, &erase, &mut output, &[]);
+    let ([mut output, mut driven], mut buffer) = ([[0xA5; 4]; 2], [0xA5; 64]);
+    let (array, erase) = (&mut chip.array[..], [0x20, 0, 0, 0]);
+    let frame = C::frame(&mut whole, true, array, &erase, &mut output, &mut driven);
+    let cut_frame = C::cut_frame(&mut cut, true, array, &erase, &mut output, &mut driven, &[]);
+    let ran = C::run(given, true, array, &[], &mut [], &mut []);
     let planned = C::plan(given, true, &chip.array, 0, &[0], &mut buffer);
-    let ran = C::run(given, true, &mut chip.array, &[], &mut []);
     let marked = C::book_mark(given, true, &chip.array, 0, &[0], &mut buffer);
     let questions =
         [C::book_is_read(given, &chip.array, 0, 0), C::book_count(given, &chip.array, 0)];
@@ -79,6 +79,6 @@ fn is_refused<C: Calls>(chip: u8, bp: u8) -> bool {
     ];
     answers == [Answer { number: 1, state: given }; 7]
         && questions == [Told { number: 1, state: given, value: 0 }; 2]
-        && (output, buffer) == ([0xA5; 4], [0xA5; 64])
+        && (output, driven, buffer) == ([0xA5; 4], [0xA5; 4], [0xA5; 64])
         && chip.array.iter().all(|byte| *byte == 0xFF)
 }

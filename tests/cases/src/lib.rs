@@ -15,14 +15,18 @@ mod board;
 mod case;
 mod chip;
 mod compare;
+mod driven;
 mod frames;
 mod generator;
 mod levels;
+mod line_sweep;
+mod listing;
 mod malform;
 mod rng;
 mod samples;
 mod script_sweep;
 mod scripts;
+mod side;
 mod spoil;
 mod surveys;
 mod sweep;
@@ -33,6 +37,7 @@ pub use case::{Case, Outcome};
 pub use compare::{explore, Difference};
 pub use generator::Item;
 pub use rng::Rng;
+pub use side::Written;
 
 pub const F25L008A: u8 = 8;
 pub const F25L05PA: u8 = 5;
@@ -41,12 +46,13 @@ pub const CHIPS: [u8; 2] = [F25L008A, F25L05PA];
 /// The first addresses that the levels of the 008A protect, and its size.
 pub const BORDERS: [usize; 5] = [0x08_0000, 0x0C_0000, 0x0E_0000, 0x0F_0000, 0x10_0000];
 
-/// The names of the cases written out, with their answers, that fail: 01's samples, the levels of
-/// protection, bad records, surveys, the plans of the worst case, the flag book, sick sectors and flags by
-/// name.
+/// The names of the cases written out, with their answers, that fail: 01's samples, which bytes the chip
+/// drives, the levels of protection, bad records, surveys, the plans of the worst case, the flag book, sick
+/// sectors and flags by name.
 pub fn written_out<C: Calls>() -> Vec<String> {
     [
         samples::failing::<C>(),
+        driven::failing::<C>(),
         levels::failing::<C>(),
         bad_records::failing::<C>(),
         surveys::failing::<C>(),

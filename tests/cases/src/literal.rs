@@ -6,7 +6,7 @@ use std::fmt::Write;
 use model::State;
 
 use crate::board::Board;
-use crate::case::{Case, Mask, On};
+use crate::case::{Case, Line, Mask, On};
 
 /// Windows of the array are printed up to this many bytes.
 const LONGEST_WINDOW: usize = 4_200;
@@ -25,21 +25,18 @@ fn write(case: &Case, board: &mut Board, to: &mut String) -> std::fmt::Result {
         Case::Wait { state, microseconds } => {
             writeln!(to, "{}\nLibrary::wait(state, {microseconds});", state_text(state))
         }
-        Case::Frame { on, frame, output } => {
+        Case::Frame { on, frame, line } => {
             write_on(case, on, board, to)?;
-            writeln!(to, "let frame = {};", bytes_text(frame))?;
-            writeln!(to, "let mut output = vec![0x5A_u8; {output}];")?;
-            writeln!(to, "Library::frame(&mut state, wp_high, &mut array, &frame, &mut output);")
+            writeln!(to, "let frame = {};\n{}", bytes_text(frame), line_text(line))?;
+            let rest = "&mut array, &frame, &mut output, &mut driven";
+            writeln!(to, "Library::frame(&mut state, wp_high, {rest});")
         }
-        Case::Cut { on, frame, output, mask } => {
+        Case::Cut { on, frame, line, mask } => {
             write_on(case, on, board, to)?;
-            writeln!(to, "let frame = {};", bytes_text(frame))?;
-            writeln!(to, "let mut output = vec![0x5A_u8; {output}];")?;
+            writeln!(to, "let frame = {};\n{}", bytes_text(frame), line_text(line))?;
             writeln!(to, "let mask = {};", mask_text(mask))?;
-            writeln!(
-                to,
-                "Library::cut_frame(&mut state, wp_high, &mut array, &frame, &mut output, &mask);"
-            )
+            let rest = "&mut array, &frame, &mut output, &mut driven, &mask";
+            writeln!(to, "Library::cut_frame(&mut state, wp_high, {rest});")
         }
         Case::Plan { on, start, wanted, room } => {
             write_on(case, on, board, to)?;
@@ -47,11 +44,11 @@ fn write(case: &Case, board: &mut Board, to: &mut String) -> std::fmt::Result {
             writeln!(to, "let mut buffer = vec![0x5A_u8; {room}];")?;
             writeln!(to, "Library::plan(state, wp_high, &array, {start:#X}, &wanted, &mut buffer);")
         }
-        Case::Run { on, script, output } => {
+        Case::Run { on, script, line } => {
             write_on(case, on, board, to)?;
-            writeln!(to, "let script = {};", bytes_text(script))?;
-            writeln!(to, "let mut output = vec![0x5A_u8; {output}];")?;
-            writeln!(to, "Library::run(state, wp_high, &mut array, &script, &mut output);")
+            writeln!(to, "let script = {};\n{}", bytes_text(script), line_text(line))?;
+            let rest = "&mut array, &script, &mut output, &mut driven";
+            writeln!(to, "Library::run(state, wp_high, {rest});")
         }
         Case::Survey { script } => {
             writeln!(to, "let script = {};", bytes_text(script))?;
@@ -112,6 +109,12 @@ fn write_chip(case: &Case, on: &On, board: &mut Board, to: &mut String) -> std::
 /// A state as a Rust binding.
 pub fn state_text(state: &State) -> String {
     format!("let mut state = {state:?};")
+}
+
+/// The two slices in which frames are shown, as Rust bindings.
+pub fn line_text(line: &Line) -> String {
+    let Line { output, driven } = line;
+    format!("let mut output = vec![0x5A_u8; {output}];\nlet mut driven = vec![0x5A_u8; {driven}];")
 }
 
 fn mask_text(mask: &Mask) -> String {

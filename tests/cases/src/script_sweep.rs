@@ -3,7 +3,7 @@
 
 use model::{State, LONGEST_FRAME, LONGEST_SCRIPT};
 
-use crate::case::{Case, On};
+use crate::case::{Case, Line, On};
 use crate::spoil::{self, Planted};
 use crate::{scripts, Rng, F25L05PA};
 
@@ -99,11 +99,11 @@ fn lengths(at: usize) -> impl Iterator<Item = Edit> {
     })
 }
 
-/// Run on an 05PA, mostly a sound one with its own array, with one output or another.
+/// Run on an 05PA, mostly a sound one with its own array, with slices of one length or another.
 fn run(rng: &mut Rng, script: Vec<u8>) -> Case {
     let mut on = On::new(State { chip: F25L05PA, ..State::default() }, true);
     spoil::chip(rng, &mut on, &mut Planted::default());
     let right = scripts::frame_bytes(&script);
-    let output = if rng.coin() { right } else { spoil::other_length(rng, right) };
-    Case::Run { on, script, output }
+    let line = if rng.coin() { Line::of(right) } else { spoil::line(rng, right) };
+    Case::Run { on, script, line }
 }

@@ -2,7 +2,7 @@
 
 use model::{State, LONGEST_REGION, LONGEST_SCRIPT};
 
-use crate::case::On;
+use crate::case::{Line, On};
 use crate::{malform, scripts, size, states, Rng, F25L008A, F25L05PA};
 
 /// A set of refusal numbers.
@@ -102,6 +102,19 @@ pub fn lengthen(rng: &mut Rng, script: &mut Vec<u8>) {
         scripts::put_wait(&mut front, 7);
     }
     script.splice(..0, front);
+}
+
+/// Wrong lengths of the two slices in which so many bytes are shown: of either alone, the second being
+/// left out at times, or of both, each its own or both the same.
+pub fn line(rng: &mut Rng, length: usize) -> Line {
+    let (output, driven) = (other_length(rng, length), other_length(rng, length));
+    match rng.below(5) {
+        0 => Line { output, driven: length },
+        1 => Line { output: length, driven },
+        2 if length > 0 => Line { output: length, driven: 0 },
+        3 => Line::of(output),
+        _ => Line { output, driven },
+    }
 }
 
 /// A wrong length instead of this right one.

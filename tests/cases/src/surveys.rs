@@ -8,8 +8,10 @@ use crate::{malform, scripts, states, Rng, CHIPS};
 
 const SEED: u64 = 1;
 const SCRIPTS: usize = 600;
-/// Up to this length every shorter output is tried, and some longer ones.
+/// Up to this length every shorter slice is tried, and some longer ones.
 const SHORT: usize = 64;
+/// What stands in a slice before a call.
+const UNTOUCHED: u8 = 0xA5;
 
 /// The scripts, good and bad, for which a survey and the other calls don't agree.
 pub fn failing<C: Calls>() -> Vec<String> {
@@ -32,8 +34,8 @@ pub fn failing<C: Calls>() -> Vec<String> {
 }
 
 /// Whether the survey says what the reader does, and a run is accepted where the survey accepts,
-/// with its counts and an output of its length; with another length it is 4. Where the survey
-/// refuses, so does a run, with any output.
+/// with its counts and slices of its length; with another length of either it is 4. Where the survey
+/// refuses, so does a run, with any slices.
 fn agrees<C: Calls>(chip: &mut Chip<C>, script: &[u8]) -> bool {
     let surveyed = C::survey(script);
     let Surveyed { number, frames, microseconds, offset, output } = surveyed;
@@ -41,11 +43,17 @@ fn agrees<C: Calls>(chip: &mut Chip<C>, script: &[u8]) -> bool {
         return false;
     }
     if number != 0 {
-        return is_refused(chip, script, [0, 1, 18, 4_101].into_iter(), number, offset);
+        let pairs = [[0, 0], [1, 0], [18, 18], [18, 4_101], [4_101, 1]];
+        return is_refused(chip, script, pairs.into_iter(), number, offset);
     }
-    let others = is_refused(chip, script, other_lengths(output), 4, 0);
-    let ran = C::run(chip.state, true, &mut chip.array, script, &mut vec![0; output]);
-    others && ran == Ran { number: 0, state: ran.state, frames, microseconds, offset: 0 }
+    let others =
+        other_lengths(output).flat_map(|other| [[other, output], [output, other], [other, other]]);
+    let others = is_refused(chip, script, others, 4, 0);
+    let [mut shown, mut driven] = [vec![UNTOUCHED; output], vec![UNTOUCHED; output]];
+    let ran = C::run(chip.state, true, &mut chip.array, script, &mut shown, &mut driven);
+    others
+        && ran == Ran { number: 0, state: ran.state, frames, microseconds, offset: 0 }
+        && driven.iter().all(|byte| *byte <= 1)
 }
 
 /// What the reader says of all records, one by one, or of the first bad one.
@@ -70,19 +78,20 @@ fn other_lengths(output: usize) -> impl Iterator<Item = usize> {
     shorter.chain([output + 1, output + 2, output + 4_101, 2 * output + 1])
 }
 
-/// Whether a run is refused with each of these lengths of output, and changes nothing.
+/// Whether a run is refused with each of these lengths of its slices, and changes nothing.
 fn is_refused<C: Calls>(
     chip: &mut Chip<C>,
     script: &[u8],
-    mut outputs: impl Iterator<Item = usize>,
+    mut pairs: impl Iterator<Item = [usize; 2]>,
     number: u32,
     offset: usize,
 ) -> bool {
     let refused = Ran { number, state: chip.state, frames: 0, microseconds: 0, offset };
     let before = chip.array.clone();
-    outputs.all(|length| {
-        let mut output = vec![0xA5; length];
-        let ran = C::run(chip.state, true, &mut chip.array, script, &mut output);
-        ran == refused && output.iter().all(|byte| *byte == 0xA5)
+    pairs.all(|pair| {
+        let mut slices = pair.map(|length| vec![UNTOUCHED; length]);
+        let [output, driven] = &mut slices;
+        let ran = C::run(chip.state, true, &mut chip.array, script, output, driven);
+        ran == refused && slices.iter().flatten().all(|byte| *byte == UNTOUCHED)
     }) && chip.array == before
 }

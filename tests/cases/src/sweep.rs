@@ -1,10 +1,11 @@
-//! The cases that are gone through one by one: chip numbers, books, scripts, states and short
-//! frames.
+//! The cases that are gone through one by one: chip numbers, books, lengths of slices, scripts,
+//! states and short frames.
 
 use model::State;
 
 use crate::book::BookSweep;
-use crate::case::{Case, On};
+use crate::case::{Case, Line, On};
+use crate::line_sweep::LineSweep;
 use crate::script_sweep::ScriptSweep;
 use crate::{frames, size, Rng, CHIPS, F25L008A, F25L05PA};
 
@@ -43,6 +44,7 @@ const LENGTHS: usize = 8;
 pub struct Sweep {
     at: usize,
     books: BookSweep,
+    lines: LineSweep,
     scripts: ScriptSweep,
     /// States, and whether WP is high, in which each short frame is tried.
     tried: Vec<(State, bool)>,
@@ -55,14 +57,15 @@ impl Sweep {
             .flat_map(tried)
             .flat_map(|state| [(state, false), (state, true)])
             .collect();
-        Self { at: 0, books: BookSweep::new(), scripts: ScriptSweep::new(), tried }
+        let (books, lines, scripts) = (BookSweep::new(), LineSweep::new(), ScriptSweep::new());
+        Self { at: 0, books, lines, scripts, tried }
     }
 
     /// How many cases it has.
     pub fn length() -> usize {
-        let Self { books, scripts, tried, .. } = Self::new();
+        let Self { books, lines, scripts, tried, .. } = Self::new();
         let frames = OPCODES * LENGTHS * tried.len();
-        CHIP_NUMBERS + books.length() + scripts.length() + STATES + frames
+        CHIP_NUMBERS + books.length() + lines.length() + scripts.length() + STATES + frames
     }
 
     pub fn next(&mut self, rng: &mut Rng) -> Option<Case> {
@@ -76,6 +79,10 @@ impl Sweep {
             return Some(self.books.case(at));
         }
         at -= self.books.length();
+        if at < self.lines.length() {
+            return Some(self.lines.case(at));
+        }
+        at -= self.lines.length();
         if at < self.scripts.length() {
             return Some(self.scripts.case(at, rng));
         }
@@ -91,9 +98,19 @@ impl Sweep {
         Some(Case::Frame {
             on: On::new(state, wp_high),
             frame: frames::bytes(rng, opcode, address, length, state.aai),
-            output: length,
+            line: Line::of(length),
         })
     }
+}
+
+/// A chip at rest, a busy one, one in a state that isn't sound, and one with a wrong array.
+pub fn chips(chip: u8) -> [On; 4] {
+    let rest = State { chip, ..State::default() };
+    let busy = State { wel: true, left: 5, ..rest };
+    let unsound = State { bp: 8, ..rest };
+    let [rest, busy, unsound] = [rest, busy, unsound].map(|state| On::new(state, true));
+    let short = On { array: size(chip) - 1, ..rest.clone() };
+    [rest, busy, unsound, short]
 }
 
 /// Power-up or time on the state with this number.

@@ -8,7 +8,7 @@ use cases::names::{self, Histories, Names, Trials};
 use cases::salvage::{self, Salvages, LONGEST_LIST};
 use cases::unread::{Script, Unread};
 use cases::worst::{Amounts, Planner};
-use cases::{explore, written_out, Item, Outcome, CHIPS};
+use cases::{explore, written_out, Item, Outcome, Written, CHIPS};
 use model::Calls;
 use zeradok::{Library, LONGEST_DROPPED, WORST_BYTES, WORST_FRAMES, WORST_MICROSECONDS};
 
@@ -52,8 +52,8 @@ fn main() -> ExitCode {
     }
     let mut counts = Counts::default();
     let mut scripts = Vec::new();
-    let note = |item: &Item, outcome: &Outcome, buffer: &[u8]| {
-        counts.note(item, outcome, buffer);
+    let note = |item: &Item, outcome: &Outcome, written: Written| {
+        counts.note(item, outcome, written);
         scripts.extend(Script::of(&item.case, outcome));
     };
     if let Err(found) = explore::<Library>(seed, cases as usize, note) {

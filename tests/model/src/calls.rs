@@ -99,7 +99,9 @@ pub mod kind {
     pub const END: u32 = 3;
 }
 
-/// Somebody who answers the seventeen calls: this model, a wrong copy of it, or the library.
+/// Somebody who answers the seventeen calls: this model, a wrong copy of it, or the library. Three of
+/// them fill two slices, byte by byte of the frames: `output` with what the line reads, FF where the
+/// chip is silent, `driven` with 01 where the chip drove the byte and 00 where it was silent.
 pub trait Calls {
     fn new_chip(chip: u8) -> Answer;
     fn power_up(state: State) -> Answer;
@@ -110,6 +112,7 @@ pub trait Calls {
         array: &mut [u8],
         frame: &[u8],
         output: &mut [u8],
+        driven: &mut [u8],
     ) -> u32;
     fn cut_frame(
         state: &mut State,
@@ -117,6 +120,7 @@ pub trait Calls {
         array: &mut [u8],
         frame: &[u8],
         output: &mut [u8],
+        driven: &mut [u8],
         mask: &[u8],
     ) -> u32;
     fn plan(
@@ -127,7 +131,14 @@ pub trait Calls {
         wanted: &[u8],
         buffer: &mut [u8],
     ) -> Planned;
-    fn run(state: State, wp_high: bool, array: &mut [u8], script: &[u8], output: &mut [u8]) -> Ran;
+    fn run(
+        state: State,
+        wp_high: bool,
+        array: &mut [u8],
+        script: &[u8],
+        output: &mut [u8],
+        driven: &mut [u8],
+    ) -> Ran;
     fn survey(script: &[u8]) -> Surveyed;
     fn read(script: &[u8], offset: usize) -> Record;
     fn book_is_read(state: State, array: &[u8], sector: usize, scene: u32) -> Told;

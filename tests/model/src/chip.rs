@@ -22,6 +22,14 @@ pub enum Kind {
     PowerDown,
 }
 
+impl Kind {
+    /// Whether the chip drives something while such a frame is sent, if that is long enough.
+    pub fn is_answered(self) -> bool {
+        use Kind::{FastRead, Jedec, Read, ReadId, ReadStatus, Signature};
+        matches!(self, ReadStatus | Read | FastRead | Jedec | Signature | ReadId)
+    }
+}
+
 pub const SECTOR: usize = 4_096;
 pub const BLOCK: usize = 65_536;
 pub const PAGE: usize = 256;

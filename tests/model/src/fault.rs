@@ -148,6 +148,64 @@ pub enum Fault {
     NothingNewNotPlanned,
     /// A mark that is refused clears its buffer.
     RefusedMarkWrites,
+
+    // Of which bytes the chip drives (02, A10).
+    /// Driven is what isn't FF in the output: an FF that the chip drives is silent.
+    DrivenErasedSilent,
+    /// The bytes before an answer are driven.
+    HeaderDriven,
+    /// 0B's byte 4 is driven.
+    DummyDriven,
+    /// 9F's FF from byte 4 on is driven.
+    JedecTailDriven,
+    /// AB on the 05PA is driven from byte 1, the FF before the signature too.
+    SignatureDrivenFrom1,
+    /// A taken frame that has no answer is driven.
+    SilentCommandDriven,
+    /// An ignored frame is driven, every byte of it.
+    IgnoredDriven,
+    /// An ignored frame is driven where a taken one with its opcode would be.
+    DrivenByOpcode,
+    /// A silent byte is 00 in the output.
+    SilentReadsZero,
+    /// Driven is FF and not 01.
+    DrivenIsFf,
+    /// Of an interrupted frame nothing is driven.
+    CutFrameSilent,
+    /// The two slices of an interrupted frame are swapped.
+    CutSlicesSwapped,
+    /// A script lays what it says of a frame's bytes where the next frame's belongs.
+    DrivenFrameLate,
+    /// A frame's 4 comes only where both slices are wrong.
+    OneLengthEnough,
+    /// A frame's 4 asks for the length of the second slice alone.
+    OutputLengthNotAsked,
+    /// A frame's 4 asks for the length of the first slice alone.
+    DrivenLengthNotAsked,
+    /// A second slice that is longer than the frame is taken.
+    LongerDrivenTaken,
+    /// The second slice's length isn't asked for where the opcode has no answer.
+    SilentLengthNotAsked,
+    /// A script's 4 comes only where both slices are wrong.
+    ScriptOneLengthEnough,
+    /// A script's 4 asks for the length of the second slice alone.
+    ScriptOutputLengthNotAsked,
+    /// A script's 4 asks for the length of the first slice alone.
+    ScriptDrivenLengthNotAsked,
+    /// A second slice that is longer than a script's frames is taken.
+    ScriptLongerDrivenTaken,
+    /// The second slice's 4 comes before 3.
+    DrivenCheckedBeforeFrame,
+    /// The second slice's 4 comes behind 5.
+    DrivenCheckedAfterMask,
+    /// The second slice's 4 comes before 11 and 12 to 14.
+    DrivenCheckedBeforeRecords,
+    /// A frame that is refused clears the second slice.
+    RefusedFrameClearsDriven,
+    /// An interrupted frame that is refused does.
+    RefusedCutClearsDriven,
+    /// A script that is refused does.
+    RefusedRunClearsDriven,
 }
 
 impl Fault {

@@ -3,7 +3,8 @@
 use crate::chip::{Chip, Kind, SECTOR_TIME, WORD_TIME};
 use crate::effect::Effect;
 use crate::fault::Fault;
-use crate::reply::{self, PULL_UP};
+use crate::line::{Line, REST};
+use crate::reply;
 use crate::state::refusal;
 use crate::State;
 
@@ -23,23 +24,38 @@ pub enum Reason {
     Protected,
 }
 
-/// The refusals that a whole and an interrupted frame share.
+/// The refusals that a whole and an interrupted frame share; `output` and `driven` are the lengths of
+/// the two slices.
 pub fn accept<const FAULT: u8>(
     state: &State,
     array: &[u8],
     frame: &[u8],
-    output: &[u8],
+    output: usize,
+    driven: usize,
 ) -> Result<&'static Chip, u32> {
     let chip = state.sound_chip::<FAULT>().ok_or(refusal::STATE)?;
+    let early = Fault::DrivenCheckedBeforeFrame.within(FAULT) && driven != frame.len();
     if array.len() != chip.size {
         Err(refusal::ARRAY_LENGTH)
+    } else if early {
+        Err(refusal::OUTPUT_LENGTH)
     } else if frame.is_empty() || frame.len() > LONGEST_FRAME {
         Err(refusal::FRAME_LENGTH)
-    } else if output.len() != frame.len() {
+    } else if !fit::<FAULT>(chip.kind(frame[0]), frame.len(), output, driven) {
         Err(refusal::OUTPUT_LENGTH)
     } else {
         Ok(chip)
     }
+}
+
+/// Whether both slices are as long as the frame; the kind matters only to a wrong copy.
+fn fit<const FAULT: u8>(kind: Kind, length: usize, output: usize, driven: usize) -> bool {
+    let output = output == length || Fault::OutputLengthNotAsked.within(FAULT);
+    let driven = driven == length
+        || driven > length && Fault::LongerDrivenTaken.within(FAULT)
+        || !kind.is_answered() && Fault::SilentLengthNotAsked.within(FAULT)
+        || Fault::DrivenLengthNotAsked.within(FAULT);
+    output && driven || Fault::OneLengthEnough.within(FAULT) && (output || driven)
 }
 
 /// The kind of a frame that is taken, or why it is ignored.
@@ -140,15 +156,15 @@ pub fn run<const FAULT: u8>(
     wp_high: bool,
     array: &mut [u8],
     frame: &[u8],
-    output: &mut [u8],
+    line: Line,
 ) {
     match verdict::<FAULT>(chip, state, wp_high, frame) {
         Ok(kind) => {
-            reply::write(chip, state, kind, frame, array, output);
+            reply::show::<FAULT>(chip, state, kind, frame, array, line);
             Effect::of::<FAULT>(chip, state, kind, frame).apply::<FAULT>(array);
             take::<FAULT>(chip, state, kind, frame);
         }
-        Err(_) => ignore::<FAULT>(state, output),
+        Err(_) => ignore::<FAULT>(chip, state, frame, array, line),
     }
 }
 
@@ -159,7 +175,7 @@ pub fn run_cut<const FAULT: u8>(
     wp_high: bool,
     array: &mut [u8],
     frame: &[u8],
-    output: &mut [u8],
+    mut line: Line,
     mask: &[u8],
 ) -> Result<(), u32> {
     let verdict = verdict::<FAULT>(chip, state, wp_high, frame);
@@ -168,20 +184,37 @@ pub fn run_cut<const FAULT: u8>(
     if mask.len() != effect.length() {
         return Err(refusal::MASK_LENGTH);
     }
+    if Fault::DrivenCheckedAfterMask.within(FAULT) && line.driven.len() != frame.len() {
+        return Err(refusal::OUTPUT_LENGTH);
+    }
+    if Fault::CutFrameSilent.within(FAULT) {
+        core::mem::take(&mut line.driven).fill(0);
+    }
     match verdict {
         Ok(kind) => {
-            reply::write(chip, state, kind, frame, array, output);
+            reply::show::<FAULT>(chip, state, kind, frame, array, line);
             effect.apply_cut::<FAULT>(array, mask);
             take::<FAULT>(chip, state, kind, frame);
         }
-        Err(_) => ignore::<FAULT>(state, output),
+        Err(_) => ignore::<FAULT>(chip, state, frame, array, line),
     }
     *state = state.powered_up::<FAULT>(chip);
     Ok(())
 }
 
-fn ignore<const FAULT: u8>(state: &mut State, output: &mut [u8]) {
-    output.fill(PULL_UP);
+/// The chip drives nothing, whatever the opcode.
+fn ignore<const FAULT: u8>(
+    chip: &Chip,
+    state: &mut State,
+    frame: &[u8],
+    array: &[u8],
+    mut line: Line,
+) {
+    if Fault::DrivenByOpcode.within(FAULT) {
+        let marks = Line { output: &mut [], driven: core::mem::take(&mut line.driven) };
+        reply::show::<FAULT>(chip, state, chip.kind(frame[0]), frame, array, marks);
+    }
+    line.silent::<FAULT>(REST, Fault::IgnoredDriven);
     state.armed &= Fault::IgnoredKeepsArmed.within(FAULT);
 }
 

@@ -13,6 +13,7 @@ mod fault;
 mod flag_checks;
 mod flags;
 mod frame;
+mod line;
 mod name_list;
 mod name_sector;
 mod names;
@@ -44,6 +45,7 @@ pub use reader::LONGEST_SCRIPT;
 pub use salvage::salvage;
 
 use effect::Effect;
+use line::Line;
 use state::refusal;
 
 const RIGHT: u8 = Fault::None as u8;
@@ -85,13 +87,20 @@ impl<const FAULT: u8> Calls for Model<FAULT> {
         array: &mut [u8],
         frame: &[u8],
         output: &mut [u8],
+        driven: &mut [u8],
     ) -> u32 {
-        match frame::accept::<FAULT>(state, array, frame, output) {
+        match frame::accept::<FAULT>(state, array, frame, output.len(), driven.len()) {
             Ok(chip) => {
-                frame::run::<FAULT>(chip, state, wp_high, array, frame, output);
+                let line = Line { output, driven };
+                frame::run::<FAULT>(chip, state, wp_high, array, frame, line);
                 0
             }
-            Err(number) => number,
+            Err(number) => {
+                if Fault::RefusedFrameClearsDriven.within(FAULT) {
+                    driven.fill(0);
+                }
+                number
+            }
         }
     }
 
@@ -101,11 +110,24 @@ impl<const FAULT: u8> Calls for Model<FAULT> {
         array: &mut [u8],
         frame: &[u8],
         output: &mut [u8],
+        driven: &mut [u8],
         mask: &[u8],
     ) -> u32 {
-        let ran = frame::accept::<FAULT>(state, array, frame, output).and_then(|chip| {
-            frame::run_cut::<FAULT>(chip, state, wp_high, array, frame, output, mask)
+        let asked = match Fault::DrivenCheckedAfterMask.within(FAULT) {
+            true => frame.len(),
+            false => driven.len(),
+        };
+        let accepted = frame::accept::<FAULT>(state, array, frame, output.len(), asked);
+        let ran = accepted.and_then(|chip| {
+            let line = match Fault::CutSlicesSwapped.within(FAULT) {
+                true => Line { output: &mut *driven, driven: &mut *output },
+                false => Line { output: &mut *output, driven: &mut *driven },
+            };
+            frame::run_cut::<FAULT>(chip, state, wp_high, array, frame, line, mask)
         });
+        if Fault::RefusedCutClearsDriven.within(FAULT) && ran.is_err() {
+            driven.fill(0);
+        }
         ran.err().unwrap_or(0)
     }
 
@@ -121,8 +143,15 @@ impl<const FAULT: u8> Calls for Model<FAULT> {
             .unwrap_or_else(|number| Planned::refused(number, state))
     }
 
-    fn run(state: State, wp_high: bool, array: &mut [u8], script: &[u8], output: &mut [u8]) -> Ran {
-        script::run::<FAULT>(state, wp_high, array, script, output)
+    fn run(
+        state: State,
+        wp_high: bool,
+        array: &mut [u8],
+        script: &[u8],
+        output: &mut [u8],
+        driven: &mut [u8],
+    ) -> Ran {
+        script::run::<FAULT>(state, wp_high, array, script, Line { output, driven })
     }
 
     fn survey(script: &[u8]) -> Surveyed {

@@ -1,55 +1,67 @@
 //! What the chip drives while a frame is sent.
 
 use crate::chip::{Chip, Kind, MANUFACTURER};
+use crate::fault::Fault;
 use crate::frame::address;
+use crate::line::{Line, REST};
 use crate::State;
 
-/// What a byte that the chip doesn't drive reads as.
-pub const PULL_UP: u8 = 0xFF;
-
-/// Writes the whole output of a taken frame. It is shorter than the array.
+/// Shows all bytes of a taken frame.
 #[inline(always)]
-pub fn write(
+pub fn show<const FAULT: u8>(
     chip: &Chip,
     state: &State,
     kind: Kind,
     frame: &[u8],
     array: &[u8],
-    output: &mut [u8],
+    mut line: Line,
 ) {
     match kind {
-        Kind::ReadStatus => driven(output, 1).fill(state.status()),
-        Kind::Read => read(array, address(chip, frame), driven(output, 4)),
-        Kind::FastRead => read(array, address(chip, frame), driven(output, 5)),
+        Kind::ReadStatus => {
+            line.silent::<FAULT>(1, Fault::HeaderDriven);
+            line.show::<FAULT>(REST, Some(state.status()));
+        }
+        Kind::Read => {
+            line.silent::<FAULT>(4, Fault::HeaderDriven);
+            read::<FAULT>(array, address(chip, frame), line);
+        }
+        Kind::FastRead => {
+            line.silent::<FAULT>(4, Fault::HeaderDriven);
+            line.silent::<FAULT>(1, Fault::DummyDriven);
+            read::<FAULT>(array, address(chip, frame), line);
+        }
         Kind::Jedec => {
-            output.fill(PULL_UP);
-            for (byte, jedec) in output.iter_mut().skip(1).zip(chip.jedec) {
-                *byte = jedec;
-            }
+            line.silent::<FAULT>(1, Fault::HeaderDriven);
+            line.drive::<FAULT>(&chip.jedec);
+            line.silent::<FAULT>(REST, Fault::JedecTailDriven);
         }
-        Kind::Signature => driven(output, chip.signature_from).fill(chip.device),
+        Kind::Signature => {
+            line.silent::<FAULT>(1, Fault::HeaderDriven);
+            line.silent::<FAULT>(chip.signature_from - 1, Fault::SignatureDrivenFrom1);
+            line.show::<FAULT>(REST, Some(chip.device));
+        }
         Kind::ReadId => {
-            let mut turns = [MANUFACTURER, chip.device];
-            turns.rotate_left(address(chip, frame) % 2);
-            for pair in driven(output, 4).chunks_mut(2) {
-                pair.copy_from_slice(&turns[..pair.len()]);
-            }
+            line.silent::<FAULT>(4, Fault::HeaderDriven);
+            identify::<FAULT>(chip, address(chip, frame), line);
         }
-        _ => output.fill(PULL_UP),
+        _ => line.silent::<FAULT>(REST, Fault::SilentCommandDriven),
     }
 }
 
-/// The output from byte `from` on; the bytes before it aren't driven.
-fn driven(output: &mut [u8], from: usize) -> &mut [u8] {
-    let (silent, driven) = output.split_at_mut(from.min(output.len()));
-    silent.fill(PULL_UP);
-    driven
+/// Shows the manufacturer and the device by turns, the device first at an odd address.
+fn identify<const FAULT: u8>(chip: &Chip, address: usize, mut line: Line) {
+    let mut turns = [MANUFACTURER, chip.device];
+    turns.rotate_left(address % 2);
+    while line.goes_on() {
+        line.drive::<FAULT>(&turns);
+    }
 }
 
-/// The array from the address up, wrapping at the top.
-fn read(array: &[u8], address: usize, output: &mut [u8]) {
-    let below_top = output.len().min(array.len() - address);
-    let (high, low) = output.split_at_mut(below_top);
-    high.copy_from_slice(&array[address..][..high.len()]);
-    low.copy_from_slice(&array[..low.len()]);
+/// Shows the array from the address up, wrapping at the top.
+fn read<const FAULT: u8>(array: &[u8], address: usize, mut line: Line) {
+    let mut from = address;
+    while line.goes_on() {
+        line.drive::<FAULT>(&array[from..]);
+        from = 0;
+    }
 }

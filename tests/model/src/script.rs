@@ -3,6 +3,7 @@
 use crate::chip::Chip;
 use crate::fault::Fault;
 use crate::frame;
+use crate::line::Line;
 use crate::reader::{next, Bad, Next, LONGEST_SCRIPT};
 use crate::state::refusal;
 use crate::{Ran, State, Surveyed};
@@ -48,21 +49,32 @@ fn accept<const FAULT: u8>(
     state: &State,
     array: &[u8],
     surveyed: &Surveyed,
-    output: &[u8],
+    line: &Line,
 ) -> Result<&'static Chip, u32> {
     let chip = state.sound_chip::<FAULT>().ok_or(refusal::STATE)?;
-    let output_fits = output.len() == surveyed.output;
+    let [output, driven] = [line.output.len(), line.driven.len()];
+    let early = Fault::OutputCheckedBeforeRecords.within(FAULT) && output != surveyed.output
+        || Fault::DrivenCheckedBeforeRecords.within(FAULT) && driven != surveyed.output;
     if array.len() != chip.size {
         Err(refusal::ARRAY_LENGTH)
-    } else if Fault::OutputCheckedBeforeRecords.within(FAULT) && !output_fits {
+    } else if early {
         Err(refusal::OUTPUT_LENGTH)
     } else if surveyed.number != 0 {
         Err(surveyed.number)
-    } else if !output_fits {
+    } else if !fit::<FAULT>(surveyed.output, output, driven) {
         Err(refusal::OUTPUT_LENGTH)
     } else {
         Ok(chip)
     }
+}
+
+/// Whether both slices are as long as all frames together.
+fn fit<const FAULT: u8>(length: usize, output: usize, driven: usize) -> bool {
+    let output = output == length || Fault::ScriptOutputLengthNotAsked.within(FAULT);
+    let driven = driven == length
+        || driven > length && Fault::ScriptLongerDrivenTaken.within(FAULT)
+        || Fault::ScriptDrivenLengthNotAsked.within(FAULT);
+    output && driven || Fault::ScriptOneLengthEnough.within(FAULT) && (output || driven)
 }
 
 /// The offset that comes with a run's refusal: 12, 13 and 14 "alone carry an offset" (02, A1).
@@ -81,26 +93,27 @@ pub fn run<const FAULT: u8>(
     wp_high: bool,
     array: &mut [u8],
     script: &[u8],
-    output: &mut [u8],
+    mut line: Line,
 ) -> Ran {
     let surveyed = survey::<FAULT>(script);
-    let chip = match accept::<FAULT>(&state, array, &surveyed, output) {
+    let chip = match accept::<FAULT>(&state, array, &surveyed, &line) {
         Ok(chip) => chip,
         Err(number) => {
+            if Fault::RefusedRunClearsDriven.within(FAULT) {
+                line.driven.fill(0);
+            }
             let offset = offset_with::<FAULT>(number, &surveyed, script);
             return Ran::refused(number, state, offset);
         }
     };
     let mut ran = Ran { number: 0, state, frames: 0, microseconds: 0, offset: 0 };
     let mut rest = script;
-    let mut output = output;
     loop {
         match next::<FAULT>(rest) {
             Ok(Next::Frame(frame, after)) => {
-                let (here, later) = output.split_at_mut(frame.len());
+                let here = place::<FAULT>(&mut line, frame.len());
                 frame::run::<FAULT>(chip, &mut ran.state, wp_high, array, frame, here);
                 ran.frames += 1;
-                output = later;
                 rest = after;
             }
             Ok(Next::Wait(microseconds, after)) => {
@@ -111,6 +124,16 @@ pub fn run<const FAULT: u8>(
             Ok(Next::End) | Err(_) => return ran,
         }
     }
+}
+
+/// Where a frame of this length is shown, behind those before it.
+fn place<'a, const FAULT: u8>(line: &'a mut Line, length: usize) -> Line<'a> {
+    let mut here = line.next(length);
+    if Fault::DrivenFrameLate.within(FAULT) {
+        let length = length.min(line.driven.len());
+        here.driven = &mut line.driven[..length];
+    }
+    here
 }
 
 fn waited<const FAULT: u8>(so_far: u64, microseconds: u32) -> u64 {

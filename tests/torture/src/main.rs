@@ -1,6 +1,7 @@
 //! Power cuts everywhere in plans that the library makes and runs: `torture [seed] [plans]`.
 
 mod history;
+mod line;
 mod naming;
 mod setting;
 mod tally;

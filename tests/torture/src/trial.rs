@@ -5,8 +5,9 @@ use std::marker::PhantomData;
 use cases::literal::bytes_text;
 use cases::names::Names;
 use cases::{book, Rng};
-use model::{kind, Calls, Planned, State};
+use model::{kind, Calls, Planned, Ran, State};
 
+use crate::line::Line;
 use crate::setting::{Ask, Setting};
 use crate::tally::{Tally, PARTS};
 
@@ -97,7 +98,7 @@ impl<'a, C: Calls> Trial<'a, C> {
                 .map_err(|what| format!("cut inside record {index}, {what}"))?;
             }
             if let Some(record) = record {
-                state = self.run(state, &script[record.from..record.until])?;
+                state = self.run(state, &script[record.from..record.until])?.state;
             }
         }
         Ok(())
@@ -114,7 +115,6 @@ impl<'a, C: Calls> Trial<'a, C> {
     ) -> Result<(), String> {
         let so_far = self.array[self.setting.region()].to_vec();
         let programmed = programmed(frame);
-        let mut output = vec![0; frame.len()];
         for round in 0..if programmed > 0 { 4 } else { 1 } {
             let mask = match round {
                 0 => vec![0x00; programmed],
@@ -123,8 +123,11 @@ impl<'a, C: Calls> Trial<'a, C> {
             };
             let mut cut = state;
             let wp_high = self.setting.wp_high;
-            let number = C::cut_frame(&mut cut, wp_high, self.array, frame, &mut output, &mask);
+            let mut line = Line::new(frame.len());
+            let [output, driven] = line.slices();
+            let number = C::cut_frame(&mut cut, wp_high, self.array, frame, output, driven, &mask);
             accepted(number, "the cut frame")
+                .and_then(|()| line.check_silent())
                 .and_then(|()| self.again(cut, first_length, tally))
                 .map_err(|what| format!("mask {}: {what}", bytes_text(&mask)))?;
             self.restore(&so_far);
@@ -217,10 +220,7 @@ impl<'a, C: Calls> Trial<'a, C> {
         script: &[u8],
         wanted: &[u8],
     ) -> Result<State, String> {
-        let mut output = vec![0; output_length::<C>(script)?];
-        let wp_high = self.setting.wp_high;
-        let ran = C::run(state, wp_high, self.array, script, &mut output);
-        accepted(ran.number, "the run")?;
+        let ran = self.run(state, script)?;
         let counts = (ran.frames, ran.microseconds);
         if counts != (planned.frames, u64::from(planned.microseconds)) {
             return Err("the run's counts aren't the plan's".into());
@@ -273,12 +273,14 @@ impl<'a, C: Calls> Trial<'a, C> {
         }
     }
 
-    /// Runs a part of the script.
-    fn run(&mut self, state: State, part: &[u8]) -> Result<State, String> {
-        let mut output = vec![0; output_length::<C>(part)?];
-        let ran = C::run(state, self.setting.wp_high, self.array, part, &mut output);
-        accepted(ran.number, "a record's run")?;
-        Ok(ran.state)
+    /// Runs a script, or a part of one: the chip drives nothing in a plan's frames.
+    fn run(&mut self, state: State, script: &[u8]) -> Result<Ran, String> {
+        let mut line = Line::new(output_length::<C>(script)?);
+        let [output, driven] = line.slices();
+        let ran = C::run(state, self.setting.wp_high, self.array, script, output, driven);
+        accepted(ran.number, "the run")?;
+        line.check_silent()?;
+        Ok(ran)
     }
 
     fn restore(&mut self, region: &[u8]) {

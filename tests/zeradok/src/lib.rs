@@ -36,8 +36,9 @@ impl Chip {
         array: &mut [u8],
         frame: &[u8],
         output: &mut [u8],
+        driven: &mut [u8],
     ) -> u32 {
-        binding::frame(&mut self.0, wp_high, array, frame, output)
+        binding::frame(&mut self.0, wp_high, array, frame, output, driven)
     }
 
     /// Number and value of the answer.
@@ -78,9 +79,10 @@ impl Calls for Library {
         array: &mut [u8],
         frame: &[u8],
         output: &mut [u8],
+        driven: &mut [u8],
     ) -> u32 {
         let mut chip = Chip::from(*state);
-        let number = chip.frame(wp_high, array, frame, output);
+        let number = chip.frame(wp_high, array, frame, output, driven);
         *state = chip.into();
         number
     }
@@ -91,10 +93,11 @@ impl Calls for Library {
         array: &mut [u8],
         frame: &[u8],
         output: &mut [u8],
+        driven: &mut [u8],
         mask: &[u8],
     ) -> u32 {
         let mut chip = binding::State::from(*state);
-        let number = binding::cut_frame(&mut chip, wp_high, array, frame, output, mask);
+        let number = binding::cut_frame(&mut chip, wp_high, array, frame, output, driven, mask);
         *state = chip.into();
         number
     }
@@ -110,8 +113,15 @@ impl Calls for Library {
         binding::plan(state.into(), wp_high, array, start, wanted, buffer).into()
     }
 
-    fn run(state: State, wp_high: bool, array: &mut [u8], script: &[u8], output: &mut [u8]) -> Ran {
-        binding::run(state.into(), wp_high, array, script, output).into()
+    fn run(
+        state: State,
+        wp_high: bool,
+        array: &mut [u8],
+        script: &[u8],
+        output: &mut [u8],
+        driven: &mut [u8],
+    ) -> Ran {
+        binding::run(state.into(), wp_high, array, script, output, driven).into()
     }
 
     fn survey(script: &[u8]) -> Surveyed {

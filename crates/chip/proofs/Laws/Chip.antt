@@ -26,6 +26,8 @@ pub record Regular (chip : Chip) (kind : ℕ → ℕ) : Type 0 where
   -- the levels' table is that of one size
   pub graded-size : chip .graded ≡ true → chip .size ≡ 1048576
   pub new-level-le-7 : chip .«new_level» ≤ 7
+  -- ---- the signature comes from byte 4 on, at the latest
+  pub preamble-le-4 : chip .preamble ≤ 4
   -- ---- nothing takes longer than a chip erase
   pub block-le-chip-time : chip .«block_time» ≤ chip .«chip_time»
   pub sector-le-chip-time : 90000 ≤ chip .«chip_time»
@@ -81,6 +83,7 @@ regular-008a = record {
   whole-blocks = refl;
   graded-size = λ _. refl;
   new-level-le-7 = omega arith;
+  preamble-le-4 = omega arith;
   block-le-chip-time = omega arith;
   sector-le-chip-time = omega arith;
   aai-without-power-down = λ _ e. false≢true e;
@@ -103,6 +106,7 @@ regular-05pa = record {
   whole-blocks = refl;
   graded-size = λ e. absurd (false≢true e);
   new-level-le-7 = omega arith;
+  preamble-le-4 = omega arith;
   block-le-chip-time = omega arith;
   sector-le-chip-time = omega arith;
   aai-without-power-down = λ e _. false≢true e;

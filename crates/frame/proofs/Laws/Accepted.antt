@@ -17,21 +17,23 @@ use Rattle.state.specs.State.{dataOf}
 use Rattle.state.specs.Soundness.{isSound}
 use Rattle.state.proofs.Laws.Soundness.{sound-of, of-sound}
 use Rattle.frame.specs.Device.{Device}
+use Rattle.frame.specs.Line.{Line}
 use Rattle.frame.specs.Ran.{maskWanted}
+use Rattle.frame.proofs.Laws.Line.{long-of, of-long}
 use Rattle.frame.specs.Call.{frameRefusals, frameNumber, Accepted, maskRefusals, cutRefusals, cutNumber, CutAccepted}
 
 -- ---- run a frame
 
-module _ (wp : Bool) (f : List ℕ) (d : Device) (output : List ℕ) where
+module _ (wp : Bool) (f : List ℕ) (d : Device) (line : Line) where
   abbrev rows : List (ℕ × Bool)
-  rows = frameRefusals wp f d output
+  rows = frameRefusals wp f d line
 
   -- each number exactly when its own condition holds and no earlier one does
-  pub frame-exactly : (number : ℕ) → 0 < number → Exactly (frameNumber wp f d output ≡ number) (Given number (frameRefusals wp f d output))
+  pub frame-exactly : (number : ℕ) → 0 < number → Exactly (frameNumber wp f d line ≡ number) (Given number (frameRefusals wp f d line))
   unfolding frameNumber
   frame-exactly number h = given-exactly rows number h
 
-  clear-words : Clear rows → Accepted wp f d output
+  clear-words : Clear rows → Accepted wp f d line
   clear-words c =
       let three = c .1 .1 .0 in
       let z = eqb-false (length f) 0 (or-none-l (eqb (length f) 0) (ltb longestFrame (length f)) three) in
@@ -40,62 +42,62 @@ module _ (wp : Bool) (f : List ℕ) (d : Device) (output : List ℕ) where
         sized = eqb-true _ _ (not-false (eqb (length (d .array)) (dataOf (d .state) .size)) (c .1 .0));
         some = omega (arith, z);
         short = ltb-false longestFrame (length f) (or-none-r (eqb (length f) 0) (ltb longestFrame (length f)) three);
-        same = eqb-true _ _ (not-false (eqb (length output) (length f)) (c .1 .1 .1 .0));
+        same = long-of (length f) line (c .1 .1 .1 .0);
       }
 
-  words-clear : Accepted wp f d output → Clear rows
+  words-clear : Accepted wp f d line → Clear rows
   words-clear a = (
     ap not (of-sound (d .state) (a .sound)),
     (
       rw (eq-eqb _ _ (a .sized)) refl,
-      (rw (ne-eqb (length f) 0 (λ z. omega (arith, z, a .some)), le-ltb longestFrame (length f) (a .short)) refl, (rw (eq-eqb _ _ (a .same)) refl, tt)),
+      (rw (ne-eqb (length f) 0 (λ z. omega (arith, z, a .some)), le-ltb longestFrame (length f) (a .short)) refl, (of-long (length f) line (a .same), tt)),
     ),
   )
 
   -- number 0 is accepted
-  pub number-accepted : frameNumber wp f d output ≡ 0 → Accepted wp f d output
+  pub number-accepted : frameNumber wp f d line ≡ 0 → Accepted wp f d line
   unfolding frameNumber
   number-accepted e = clear-words (clear rows refl e)
 
-  pub accepted-number : Accepted wp f d output → frameNumber wp f d output ≡ 0
+  pub accepted-number : Accepted wp f d line → frameNumber wp f d line ≡ 0
   unfolding frameNumber
   accepted-number a = first-of-clear rows (words-clear a)
 
   -- ---- run an interrupted frame: the frame's own refusals, then the mask's
 
   module _ (mask : List ℕ) where
-    pub cut-exactly : (number : ℕ) → 0 < number → Exactly (cutNumber wp f mask d output ≡ number) (Given number (cutRefusals wp f mask d output))
+    pub cut-exactly : (number : ℕ) → 0 < number → Exactly (cutNumber wp f mask d line ≡ number) (Given number (cutRefusals wp f mask d line))
     unfolding cutNumber
-    cut-exactly number h = given-exactly (cutRefusals wp f mask d output) number h
+    cut-exactly number h = given-exactly (cutRefusals wp f mask d line) number h
 
     -- what the whole frame is refused for, the interrupted one is
-    pub cut-number-refused : (frameNumber wp f d output ≡ 0 → ⊥) → cutNumber wp f mask d output ≡ frameNumber wp f d output
+    pub cut-number-refused : (frameNumber wp f d line ≡ 0 → ⊥) → cutNumber wp f mask d line ≡ frameNumber wp f d line
     unfolding cutNumber frameNumber
     cut-number-refused h = first-before rows (maskRefusals wp f mask d) _ (omega (arith, h)) refl
 
     -- and where it would be accepted, the mask alone counts
-    mask-alone : Accepted wp f d output → cutNumber wp f mask d output ≡ firstOf (maskRefusals wp f mask d)
+    mask-alone : Accepted wp f d line → cutNumber wp f mask d line ≡ firstOf (maskRefusals wp f mask d)
     unfolding cutNumber
     mask-alone a = first-behind rows (maskRefusals wp f mask d) (words-clear a)
 
-    pub cut-accepted-number : CutAccepted wp f mask d output → cutNumber wp f mask d output ≡ 0
+    pub cut-accepted-number : CutAccepted wp f mask d line → cutNumber wp f mask d line ≡ 0
     cut-accepted-number a = mask-alone (a .whole) ∙ rw (eq-eqb (length mask) (maskWanted wp f d) (a .masked)) refl
 
-    pub cut-number-unmasked : Accepted wp f d output → (length mask ≡ maskWanted wp f d → ⊥) → cutNumber wp f mask d output ≡ wrongMask
+    pub cut-number-unmasked : Accepted wp f d line → (length mask ≡ maskWanted wp f d → ⊥) → cutNumber wp f mask d line ≡ wrongMask
     cut-number-unmasked a m = mask-alone a ∙ rw (ne-eqb (length mask) (maskWanted wp f d) m) refl
 
     -- a mask of the right length is no reason
-    pub cut-number-whole : length mask ≡ maskWanted wp f d → cutNumber wp f mask d output ≡ frameNumber wp f d output
+    pub cut-number-whole : length mask ≡ maskWanted wp f d → cutNumber wp f mask d line ≡ frameNumber wp f d line
     cut-number-whole m =
-        cases (eqb (frameNumber wp f d output) 0)
-        (λ t. let z = eqb-true (frameNumber wp f d output) 0 t in cut-accepted-number record { whole = number-accepted z; masked = m } ∙ sym z)
-        (λ t. cut-number-refused (eqb-false (frameNumber wp f d output) 0 t))
+        cases (eqb (frameNumber wp f d line) 0)
+        (λ t. let z = eqb-true (frameNumber wp f d line) 0 t in cut-accepted-number record { whole = number-accepted z; masked = m } ∙ sym z)
+        (λ t. cut-number-refused (eqb-false (frameNumber wp f d line) 0 t))
 
     -- number 0 is accepted
-    pub cut-number-accepted : cutNumber wp f mask d output ≡ 0 → CutAccepted wp f mask d output
+    pub cut-number-accepted : cutNumber wp f mask d line ≡ 0 → CutAccepted wp f mask d line
     unfolding cutNumber
     cut-number-accepted e =
-        let c = clear (cutRefusals wp f mask d output) refl e in
+        let c = clear (cutRefusals wp f mask d line) refl e in
         record {
           whole = clear-words (c .0, (c .1 .0, (c .1 .1 .0, (c .1 .1 .1 .0, tt))));
           masked = eqb-true _ _ (not-false (eqb (length mask) (maskWanted wp f d)) (c .1 .1 .1 .1 .0));

@@ -24,6 +24,7 @@ use Rattle.effect.proofs.Laws.Cut.{cut-between, ones, zeros, cut-all, cut-none}
 use Rattle.effect.proofs.Laws.Rise.{NoErase, changed-no-rise, cut-no-rise}
 use Rattle.effect.proofs.Laws.Effect.{changed-above, cut-above}
 use Rattle.frame.specs.Device.{Device}
+use Rattle.frame.specs.Line.{Line}
 use Rattle.frame.specs.Ran.{effectAt, ranDevice, maskWanted, tornDevice}
 use Rattle.frame.specs.Call.{frameNumber, Accepted, frameDevice, cutDevice}
 use Rattle.frame.proofs.Laws.Accepted.{cut-number-whole}
@@ -54,62 +55,62 @@ module _ (wp : Bool) (f : List ℕ) (d : Device) where
   pub ran-no-bit-rises : NoErase (effectAt (d .state) wp f) → (k : ℕ) → NoRise (getD (d .array) k 0) (getD (ranDevice wp f d .array) k 0)
   ran-no-bit-rises p k = ran-each NoRise no-rise-refl k (changed-no-rise (effectAt (d .state) wp f) f k (getD (d .array) k 0) p)
 
-module _ (wp : Bool) (f : List ℕ) (d : Device) (output : List ℕ) where
+module _ (wp : Bool) (f : List ℕ) (d : Device) (line : Line) where
   -- ---- run a frame
 
-  pub frame-array-protected : (k : ℕ) → firstProtected (d .state) ≤ k → getD (frameDevice wp f d output .array) k 0 ≡ getD (d .array) k 0
+  pub frame-array-protected : (k : ℕ) → firstProtected (d .state) ≤ k → getD (frameDevice wp f d line .array) k 0 ≡ getD (d .array) k 0
   frame-array-protected k h =
-      frame-either wp f d output (λ (e : Device). getD (e .array) k 0 ≡ getD (d .array) k 0) refl (λ a. ran-array-protected wp f d (a .sound) k h)
+      frame-either wp f d line (λ (e : Device). getD (e .array) k 0 ≡ getD (d .array) k 0) refl (λ a. ran-array-protected wp f d (a .sound) k h)
 
-  pub frame-no-bit-rises : NoErase (effectAt (d .state) wp f) → (k : ℕ) → NoRise (getD (d .array) k 0) (getD (frameDevice wp f d output .array) k 0)
+  pub frame-no-bit-rises : NoErase (effectAt (d .state) wp f) → (k : ℕ) → NoRise (getD (d .array) k 0) (getD (frameDevice wp f d line .array) k 0)
   frame-no-bit-rises p k =
-      frame-either wp f d output (λ (e : Device). NoRise (getD (d .array) k 0) (getD (e .array) k 0)) (no-rise-refl _) (λ _. ran-no-bit-rises wp f d p k)
+      frame-either wp f d line (λ (e : Device). NoRise (getD (d .array) k 0) (getD (e .array) k 0)) (no-rise-refl _) (λ _. ran-no-bit-rises wp f d p k)
 
   -- an accepted one
-  frame-array-at : Accepted wp f d output → (k : ℕ) → k < length (d .array)
-      → getD (frameDevice wp f d output .array) k 0 ≡ changed (effectAt (d .state) wp f) f k (getD (d .array) k 0)
+  frame-array-at : Accepted wp f d line → (k : ℕ) → k < length (d .array)
+      → getD (frameDevice wp f d line .array) k 0 ≡ changed (effectAt (d .state) wp f) f k (getD (d .array) k 0)
   unfolding ranDevice
   frame-array-at a k b =
-      ap (λ (e : Device). getD (e .array) k 0) (sym (frame-accepted wp f d output a record { device-is = refl; output-is = refl } .device-is))
+      ap (λ (e : Device). getD (e .array) k 0) (sym (frame-accepted wp f d line a record { device-is = refl; line-is = refl } .device-is))
       ∙ getD-mapi (changed (effectAt (d .state) wp f) f) (d .array) k 0 b
 
   -- ---- run an interrupted frame
 
   module _ (mask : List ℕ) where
     cut-each : (P : ℕ → ℕ → Type 0) → ((x : ℕ) → P x x) → (k : ℕ)
-        → (Accepted wp f d output → k < length (d .array) → P (getD (d .array) k 0) (cut (effectAt (d .state) wp f) f mask k (getD (d .array) k 0)))
-        → P (getD (d .array) k 0) (getD (cutDevice wp f mask d output .array) k 0)
+        → (Accepted wp f d line → k < length (d .array) → P (getD (d .array) k 0) (cut (effectAt (d .state) wp f) f mask k (getD (d .array) k 0)))
+        → P (getD (d .array) k 0) (getD (cutDevice wp f mask d line .array) k 0)
     unfolding tornDevice
     cut-each P same k step =
-        cut-either wp f d output mask (λ (e : Device). P (getD (d .array) k 0) (getD (e .array) k 0)) (same _)
+        cut-either wp f d line mask (λ (e : Device). P (getD (d .array) k 0) (getD (e .array) k 0)) (same _)
         (λ a. each (cut (effectAt (d .state) wp f) f mask) (d .array) P same k (step (a .whole)))
 
-    pub cut-array-protected : (k : ℕ) → firstProtected (d .state) ≤ k → getD (cutDevice wp f mask d output .array) k 0 ≡ getD (d .array) k 0
+    pub cut-array-protected : (k : ℕ) → firstProtected (d .state) ≤ k → getD (cutDevice wp f mask d line .array) k 0 ≡ getD (d .array) k 0
     cut-array-protected k h =
         cut-each (λ (x y : ℕ). y ≡ x) (λ x. refl) k
         (λ a _. cut-above (effectAt (d .state) wp f) f k (getD (d .array) k 0) mask
         (le-trans (effect-free (d .state) (commandOf (d .state) wp f) (fits (d .state) wp f (a .sound))) h))
 
-    pub cut-no-bit-rises : NoErase (effectAt (d .state) wp f) → (k : ℕ) → NoRise (getD (d .array) k 0) (getD (cutDevice wp f mask d output .array) k 0)
+    pub cut-no-bit-rises : NoErase (effectAt (d .state) wp f) → (k : ℕ) → NoRise (getD (d .array) k 0) (getD (cutDevice wp f mask d line .array) k 0)
     cut-no-bit-rises p k = cut-each NoRise no-rise-refl k (λ _ _. cut-no-rise (effectAt (d .state) wp f) f k (getD (d .array) k 0) p mask)
 
     -- each bit is as the whole frame leaves it, or as it was
     pub cut-array-between : Bytes mask → (k b : ℕ) → b < 8
-        → (bitAt (getD (cutDevice wp f mask d output .array) k 0) b ≡ bitAt (getD (frameDevice wp f d output .array) k 0) b)
-        ⊎ (bitAt (getD (cutDevice wp f mask d output .array) k 0) b ≡ bitAt (getD (d .array) k 0) b)
+        → (bitAt (getD (cutDevice wp f mask d line .array) k 0) b ≡ bitAt (getD (frameDevice wp f d line .array) k 0) b)
+        ⊎ (bitAt (getD (cutDevice wp f mask d line .array) k 0) b ≡ bitAt (getD (d .array) k 0) b)
     cut-array-between bytes k b l =
-        cut-each (λ (x y : ℕ). (bitAt y b ≡ bitAt (getD (frameDevice wp f d output .array) k 0) b) ⊎ (bitAt y b ≡ bitAt x b)) (λ x. inr refl) k
+        cut-each (λ (x y : ℕ). (bitAt y b ≡ bitAt (getD (frameDevice wp f d line .array) k 0) b) ⊎ (bitAt y b ≡ bitAt x b)) (λ x. inr refl) k
         (λ a i. rw (frame-array-at a k i) (cut-between (effectAt (d .state) wp f) f mask k (getD (d .array) k 0) b (bytes _) l))
 
   -- the mask's extremes
   module _ (bytes : Bytes (d .array)) where
-    pub cut-array-all : cutDevice wp f (ones (maskWanted wp f d)) d output .array ≡ frameDevice wp f d output .array
+    pub cut-array-all : cutDevice wp f (ones (maskWanted wp f d)) d line .array ≡ frameDevice wp f d line .array
     unfolding cutDevice frameDevice tornDevice ranDevice
     cut-array-all =
-        let n = cut-number-whole wp f d output (ones (maskWanted wp f d)) (length-replicate {A = ℕ} (maskWanted wp f d) 255) in
-        cases (eqb (frameNumber wp f d output) 0) (λ t. rw (n, t) (cut-all (effectAt (d .state) wp f) f (d .array) bytes)) (λ t. rw (n, t) refl)
+        let n = cut-number-whole wp f d line (ones (maskWanted wp f d)) (length-replicate {A = ℕ} (maskWanted wp f d) 255) in
+        cases (eqb (frameNumber wp f d line) 0) (λ t. rw (n, t) (cut-all (effectAt (d .state) wp f) f (d .array) bytes)) (λ t. rw (n, t) refl)
 
-    pub cut-array-none : (n : ℕ) → cutDevice wp f (zeros n) d output .array ≡ d .array
+    pub cut-array-none : (n : ℕ) → cutDevice wp f (zeros n) d line .array ≡ d .array
     unfolding tornDevice
     cut-array-none n =
-        cut-either wp f d output (zeros n) (λ (e : Device). e .array ≡ d .array) refl (λ _. cut-none (effectAt (d .state) wp f) f (d .array) n bytes)
+        cut-either wp f d line (zeros n) (λ (e : Device). e .array ≡ d .array) refl (λ _. cut-none (effectAt (d .state) wp f) f (d .array) n bytes)

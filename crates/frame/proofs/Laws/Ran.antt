@@ -1,4 +1,4 @@
--- What an accepted frame leaves, whole or interrupted: its registers are sound, of the same chip; its array is as long as before; its output as long
+-- What an accepted frame leaves, whole or interrupted: its registers are sound, of the same chip; its array is as long as before; its line as long
 -- as the frame.
 -- Assumes nothing.
 use mathlib.Core.Path.{_≡_, refl}
@@ -6,8 +6,8 @@ use mathlib.Core.Bool.{Bool}
 use mathlib.Core.List.{List}
 use Prim.Native.Nat.{ℕ}
 use lib.ListN.{length}
-use Rattle.common.specs.Lists.{mapi, tab}
-use Rattle.common.proofs.Laws.Lists.{length-tab, length-mapi}
+use Rattle.common.specs.Lists.{mapi}
+use Rattle.common.proofs.Laws.Lists.{length-mapi}
 use Rattle.state.specs.Power.{poweredUp}
 use Rattle.state.specs.Soundness.{Sound}
 use Rattle.state.proofs.Laws.Power.{powered-up-sound}
@@ -18,7 +18,9 @@ use Rattle.output.specs.Output.{memory, shownAt}
 use Rattle.effect.specs.Effect.{changed}
 use Rattle.effect.specs.Cut.{cut}
 use Rattle.frame.specs.Device.{Device, device}
-use Rattle.frame.specs.Ran.{effectAt, stateAt, ranDevice, shown, tornDevice}
+use Rattle.frame.specs.Line.{showing, Long}
+use Rattle.frame.specs.Ran.{effectAt, stateAt, ranDevice, shownLine, tornDevice}
+use Rattle.frame.proofs.Laws.Line.{showing-long}
 
 module _ (wp : Bool) (f : List ℕ) (d : Device) where
   pub ran-is : ranDevice wp f d ≡ device (stateAt (d .state) wp f) (mapi (changed (effectAt (d .state) wp f) f) (d .array))
@@ -37,13 +39,13 @@ module _ (wp : Bool) (f : List ℕ) (d : Device) where
   unfolding ranDevice
   ran-length = length-mapi (changed (effectAt (d .state) wp f) f) (d .array)
 
-  pub shown-is : shown wp f d ≡ tab (length f) (shownAt (d .state) (commandOf (d .state) wp f) (memory (d .array)))
-  unfolding shown
+  pub shown-is : shownLine wp f d ≡ showing (length f) (shownAt (d .state) (commandOf (d .state) wp f) (memory (d .array)))
+  unfolding shownLine
   shown-is = refl
 
-  pub shown-length : length (shown wp f d) ≡ length f
-  unfolding shown
-  shown-length = length-tab (length f) _
+  pub shown-long : Long (length f) (shownLine wp f d)
+  unfolding shownLine
+  shown-long = showing-long (length f) (shownAt (d .state) (commandOf (d .state) wp f) (memory (d .array)))
 
   module _ (mask : List ℕ) where
     pub torn-is : tornDevice wp f mask d ≡ device (poweredUp (stateAt (d .state) wp f)) (mapi (cut (effectAt (d .state) wp f) f mask) (d .array))

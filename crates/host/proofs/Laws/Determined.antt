@@ -10,6 +10,7 @@ use Rattle.state.specs.Power.{newChip, powerUp}
 use Rattle.state.specs.Time.{passTime}
 use Rattle.state.proofs.Laws.Determined.{new-chip-determined, power-up-determined, pass-time-determined}
 use Rattle.frame.specs.Device.{Device}
+use Rattle.frame.specs.Line.{Line}
 use Rattle.frame.specs.Call.{FrameRun, CutRun}
 use Rattle.frame.proofs.Laws.Determined.{run-frame-determined, run-cut-frame-determined}
 use Rattle.script.specs.declared.survey.Surveyed.{Surveyed}
@@ -48,9 +49,9 @@ pub zeradok-plan-determined : (chip : State) (wp : Bool) (array : List ℕ) (sta
     → (a ≡ b) × (after ≡ after′)
 zeradok-plan-determined = plan-update-determined
 
-pub zeradok-run-determined : (wp : Bool) (script : List ℕ) (d : Device) (output : List ℕ) (a b : Ran) (after after′ : Device) (out out′ : List ℕ)
-    → ScriptRun wp script d output a after out → ScriptRun wp script d output b after′ out′
-    → (a ≡ b) × ((after ≡ after′) × (out ≡ out′))
+pub zeradok-run-determined : (wp : Bool) (script : List ℕ) (d : Device) (line : Line) (a b : Ran) (after after′ : Device) (lineAfter lineAfter′ : Line)
+    → ScriptRun wp script d line a after lineAfter → ScriptRun wp script d line b after′ lineAfter′
+    → (a ≡ b) × ((after ≡ after′) × (lineAfter ≡ lineAfter′))
 zeradok-run-determined = run-script-determined
 
 pub zeradok-survey-determined : (script : List ℕ) (a b : Surveyed) → a ≡ surveyOf script → b ≡ surveyOf script → a ≡ b
@@ -96,13 +97,13 @@ pub zeradok-names-back-determined : (chip : State) (wp : Bool) (array : List ℕ
     → BookReturns chip wp array sector book list buffer after a → BookReturns chip wp array sector book list buffer after′ b → (a ≡ b) × (after ≡ after′)
 zeradok-names-back-determined = returns-determined
 
--- the two calls on a lent state: the number returned, the chip left and the output
-module _ (wp : Bool) (f : List ℕ) (d : Device) (output : List ℕ) (number number′ : ℕ) (after after′ : Device) (out out′ : List ℕ) where
+-- the two calls on a lent state: the number returned, the chip left and the line, both slices of it
+module _ (wp : Bool) (f : List ℕ) (d : Device) (line : Line) (number number′ : ℕ) (after after′ : Device) (lineAfter lineAfter′ : Line) where
   abbrev Same : Type 0
-  Same = (number ≡ number′) × ((after ≡ after′) × (out ≡ out′))
+  Same = (number ≡ number′) × ((after ≡ after′) × (lineAfter ≡ lineAfter′))
 
-  pub zeradok-frame-determined : FrameRun wp f d output number after out → FrameRun wp f d output number′ after′ out′ → Same
-  zeradok-frame-determined = run-frame-determined wp f d output number number′ after after′ out out′
+  pub zeradok-frame-determined : FrameRun wp f d line number after lineAfter → FrameRun wp f d line number′ after′ lineAfter′ → Same
+  zeradok-frame-determined = run-frame-determined wp f d line number number′ after after′ lineAfter lineAfter′
 
-  pub zeradok-cut-frame-determined : (mask : List ℕ) → CutRun wp f mask d output number after out → CutRun wp f mask d output number′ after′ out′ → Same
-  zeradok-cut-frame-determined = run-cut-frame-determined wp f d output number number′ after after′ out out′
+  pub zeradok-cut-frame-determined : (mask : List ℕ) → CutRun wp f mask d line number after lineAfter → CutRun wp f mask d line number′ after′ lineAfter′ → Same
+  zeradok-cut-frame-determined = run-cut-frame-determined wp f d line number number′ after after′ lineAfter lineAfter′

@@ -4,7 +4,7 @@ use mathlib.Core.Path.{_≡_, refl, sym, ap, _∙_}
 use mathlib.Core.Bool.{true}
 use mathlib.Core.List.{List, [], _∷_, _++_}
 use mathlib.Core.Logic.{_⊎_, inl, inr}
-use Prim.Native.Nat.{ℕ, _≤_, _<_}
+use Prim.Native.Nat.{ℕ, _/_, _%_, _≤_, _<_}
 use native.Mathlib.Omega.{arith}
 use lib.ListN.{length, replicate, length-append, length-replicate}
 use borrow.Author.Tests.{lt-ltb, le-ltb}
@@ -27,15 +27,16 @@ use Rattle.script.proofs.Laws.Bad.{bad-inside}
 use Rattle.script.proofs.Laws.Survey.{fault-numbered, survey-by, survey-output}
 use Rattle.run.specs.declared.Ran.{Ran}
 use Rattle.frame.specs.Device.{Device}
-use Rattle.run.specs.Run.{run, outputs}
+use Rattle.frame.specs.Line.{Line, Long}
+use Rattle.run.specs.Run.{run, shownByAll}
 use Rattle.run.specs.Script.{scriptNumber, ScriptAccepted, carriesOffset, ScriptRun}
 use Rattle.run.proofs.Laws.Accepted.{number-accepted, number-by-survey, fault-carries, survey-located, script-located}
 use Rattle.run.proofs.Laws.Script.{script-ran}
-use Rattle.run.proofs.Laws.Run.{outputs-length, Ready}
+use Rattle.run.proofs.Laws.Run.{shown-by-all-long, Ready}
 use Rattle.common.specs.Buffer.{Put}
-use Rattle.text.specs.Text.{digit, hex, decimalEnd, line}
+use Rattle.text.specs.Text.{digit, pair, hex, decimalEnd, lineFeed, line}
 use Rattle.listing.specs.Listing.{longestListing, high, erased, new05pa, statusLine, refusalLine, whyRefused, frameLines, decodedLines, listing, cutLines}
-use Rattle.text.proofs.Laws.Text.{length-line, length-hex, digit-low}
+use Rattle.text.proofs.Laws.Text.{hex-none, hex-first, digit-low}
 use Rattle.text.proofs.Laws.Decimal.{decimal-two, decimals-line-one, decimals-line-short}
 use Rattle.listing.proofs.Laws.Frames.{lines-cut, cut-length}
 
@@ -74,14 +75,21 @@ offset-small =
     by-survey (λ script s text. s .offset < decimalEnd) (λ _ _. omega arith) (λ _ _ _ _. omega arith)
     (λ script fault offset short e. omega (arith, short, bad-inside script e))
 
--- the outputs are no longer than the longest script
+-- what the frames show is no longer than the longest script
 pub output-small : (script : List ℕ) → surveyOf script .output ≤ longestScript
 output-small =
     by-survey (λ script s text. s .output ≤ longestScript) (λ _ _. omega arith)
     (λ script rs short e. omega (arith, short, decoded-output script rs e)) (λ _ _ _ _ _. omega arith)
 
+-- the status has its two digits and never a dash, so the last line has five characters
+pub status-digits : (d : Device)
+    → statusLine d ≡ 0x53 ∷ 0x20 ∷ digit (statusOf (d .state) / 16) ∷ digit (statusOf (d .state) % 16) ∷ lineFeed ∷ []
+status-digits d =
+    let status : ℕ = statusOf (d .state) in
+    ap (λ (told : List ℕ). line 0x53 told) (hex-first status [] ∙ ap (λ (others : List ℕ). pair status ++ others) hex-none)
+
 status-length : (d : Device) → length (statusLine d) ≡ 5
-status-length d = length-line 0x53 (hex (statusOf (d .state) ∷ [])) ∙ omega (arith, length-hex (statusOf (d .state) ∷ []))
+status-length d = ap length (status-digits d)
 
 -- two characters for each byte of the longest script, and the last line's five
 pub listing-fits : (script : List ℕ) → length (listing script) ≤ longestListing
@@ -91,8 +99,8 @@ listing-fits =
     rw (lines-cut rs new05pa)
     (omega (
       arith,
-      length-append (cutLines rs (outputs high rs new05pa)) (statusLine d),
-      cut-length rs (outputs high rs new05pa),
+      length-append (cutLines rs (shownByAll high rs new05pa)) (statusLine d),
+      cut-length rs (shownByAll high rs new05pa),
       decoded-length script rs e,
       status-length d,
     )))
@@ -125,9 +133,9 @@ erased-length = rw (new-chip-known 5 known-5, chip-of-5) (length-replicate {A = 
 pub new-ready : Ready new05pa
 new-ready = record { sound = sound-of (new05pa .state) (new-sound 5); sized = erased-length }
 
--- with room for the outputs: what the answer and the output tell
-module _ {script room output : List ℕ} {ran : Ran} {after : Device} (lent : length room ≡ surveyOf script .output)
-    (r : ScriptRun high script new05pa room ran after output) where
+-- with room for what the frames show: what the answer and the line tell
+module _ {script : List ℕ} {room shown : Line} {ran : Ran} {after : Device} (lent : Long (surveyOf script .output) room)
+    (r : ScriptRun high script new05pa room ran after shown) where
   number-is : scriptNumber high script new05pa room ≡ surveyOf script .number
   number-is = number-by-survey high script new05pa room (new-sound 5) erased-length lent
 
@@ -144,15 +152,15 @@ module _ {script room output : List ℕ} {ran : Ran} {after : Device} (lent : le
     ran-state : ran .state ≡ run high (recordsOf script) new05pa .state
     ran-state = r .state-is ∙ sym (script-ran high script new05pa room accepted .state-is)
 
-    ran-output : output ≡ outputs high (recordsOf script) new05pa
-    ran-output = r .output-is ∙ sym (script-ran high script new05pa room accepted .output-is)
+    ran-shown : shown ≡ shownByAll high (recordsOf script) new05pa
+    ran-shown = r .line-is ∙ sym (script-ran high script new05pa room accepted .line-is)
 
-    pub ran-length : length output ≡ surveyOf script .output
-    ran-length = ap length ran-output ∙ outputs-length high (recordsOf script) new05pa ∙ survey-output script (sym ran-number ∙ e)
+    pub ran-long : Long (surveyOf script .output) shown
+    ran-long = rw (ran-shown, ← survey-output script (sym ran-number ∙ e)) (shown-by-all-long high (recordsOf script) new05pa)
 
-    pub ran-listing : listing script ≡ cutLines (recordsOf script) output ++ line 0x53 (hex (statusOf (ran .state) ∷ []))
+    pub ran-listing : listing script ≡ cutLines (recordsOf script) shown ++ line 0x53 (hex (statusOf (ran .state) ∷ []))
     ran-listing =
-        rw (ran-output, ran-state, ← lines-cut (recordsOf script) new05pa) (listing-run script (sym ran-number ∙ e))
+        rw (ran-shown, ran-state, ← lines-cut (recordsOf script) new05pa) (listing-run script (sym ran-number ∙ e))
 
 -- ---- edges
 

@@ -1,4 +1,4 @@
--- A read in runs: silent bytes, then the array up to its top, then on from address 0, are the read byte by byte.
+-- A read in runs: silent bytes, then the array up to its top, then on from address 0, are the read byte by byte; and so is what of it is driven, in two.
 -- Assumes nothing.
 use mathlib.Core.Path.{_≡_, refl, sym, ap, _∙_}
 use mathlib.Core.List.{List}
@@ -11,7 +11,7 @@ use lib.Seq.{ext-getD}
 use borrow.Author.Tests.{lt-ltb, le-ltb, le-leb, lt-leb}
 use Rattle.common.specs.Lists.{mapi, tab, onRun}
 use Rattle.common.proofs.Laws.Lists.{split, length-mapi, getD-mapi, length-tab, getD-tab}
-use Rattle.output.specs.Output.{memory, readAt}
+use Rattle.output.specs.Output.{byteOf, drivenOf, memory, since, readAt}
 
 module _ (size from at : ℕ) (array output : List ℕ) (below : from < size) (short : length output ≤ size) where
   abbrev head : ℕ
@@ -45,13 +45,13 @@ module _ (size from at : ℕ) (array output : List ℕ) (below : from < size) (s
       (getD-mapi _ silent i 0 (omega (arith, silent-long)) ∙ ap (onRun head top (λ k x. getD array (from + (k - head)) 0) i) (getD-mapi _ output i 0 h))
 
   -- below the data
-  low : (i : ℕ) → i < length output → i < head → getD whole i 0 ≡ readAt size from at (memory array) i
+  low : (i : ℕ) → i < length output → i < head → getD whole i 0 ≡ byteOf (readAt size from at (memory array) i)
   low i h b =
       at-place i h
       ∙ rw (lt-leb top i (omega arith), lt-leb head i b, le-leb 0 i (omega arith), lt-ltb i head b, lt-ltb i at (omega arith)) refl
 
   -- up to the top of the array
-  middle : (i : ℕ) → i < length output → head ≤ i → i < top → getD whole i 0 ≡ readAt size from at (memory array) i
+  middle : (i : ℕ) → i < length output → head ≤ i → i < top → getD whole i 0 ≡ byteOf (readAt size from at (memory array) i)
   middle i h a b =
       let e : head ≡ at = omega arith in
       at-place i h
@@ -59,7 +59,7 @@ module _ (size from at : ℕ) (array output : List ℕ) (below : from < size) (s
       (ap (memory array) (ap (λ (n : ℕ). from + (i - n)) e ∙ sym (mod-eq-of-lt (omega arith))))
 
   -- on from address 0
-  high : (i : ℕ) → i < length output → top ≤ i → getD whole i 0 ≡ readAt size from at (memory array) i
+  high : (i : ℕ) → i < length output → top ≤ i → getD whole i 0 ≡ byteOf (readAt size from at (memory array) i)
   high i h a =
       let e : from + (i - at) ≡ i - top + size = omega arith in
       let m : (i - top + size) % size ≡ i - top = add-mod-right (i - top) size ∙ mod-eq-of-lt (omega arith) in
@@ -70,10 +70,40 @@ module _ (size from at : ℕ) (array output : List ℕ) (below : from < size) (s
       zero-plus : (n : ℕ) → 0 + n ≡ n
       zero-plus n = omega arith
 
-  pub read-in-runs : whole ≡ tab (length output) (readAt size from at (memory array))
+  pub read-in-runs : whole ≡ tab (length output) (λ i. byteOf (readAt size from at (memory array) i))
   read-in-runs =
-      ext-getD 0 whole (tab (length output) (readAt size from at (memory array)))
-      (length-mapi _ filled ∙ filled-long ∙ sym (length-tab (length output) (readAt size from at (memory array))))
+      let shown : ℕ → ℕ = λ i. byteOf (readAt size from at (memory array) i) in
+      ext-getD 0 whole (tab (length output) shown)
+      (length-mapi _ filled ∙ filled-long ∙ sym (length-tab (length output) shown))
       (λ i l. let h : i < length output = omega (arith, length-mapi (onRun top (length output) (λ k x. getD array (0 + (k - top)) 0)) filled, filled-long) in
       ⊎-elim (λ b. low i h b) (λ a. ⊎-elim (λ b. middle i h a b) (λ b. high i h b) (split i top)) (split i head)
-      ∙ sym (getD-tab (length output) (readAt size from at (memory array)) i 0 h))
+      ∙ sym (getD-tab (length output) shown i 0 h))
+
+-- the second slice: nothing of the header is driven, and every byte behind it, whatever it is
+module _ (at : ℕ) (driven : List ℕ) (bytes : ℕ → ℕ) where
+  abbrev border : ℕ
+  border = min at (length driven)
+
+  abbrev header : List ℕ
+  header = mapi (onRun 0 border (λ k x. 0)) driven
+
+  abbrev marked : List ℕ
+  marked = mapi (onRun border (length driven) (λ k x. 1)) header
+
+  header-long : length header ≡ length driven
+  header-long = length-mapi _ driven
+
+  mark-at : (i : ℕ) → i < length driven → getD marked i 0 ≡ drivenOf (since at i (bytes i))
+  mark-at i h =
+      getD-mapi _ header i 0 (omega (arith, header-long))
+      ∙ ap (onRun border (length driven) (λ k x. 1) i) (getD-mapi _ driven i 0 h)
+      ∙ ⊎-elim (λ b. rw (lt-leb border i b, le-leb 0 i (omega arith), lt-ltb i border b, lt-ltb i at (omega arith)) refl)
+      (λ a. rw (le-leb border i a, lt-ltb i (length driven) h, le-ltb i at (omega arith)) refl) (split i border)
+
+  pub driven-in-runs : marked ≡ tab (length driven) (λ i. drivenOf (since at i (bytes i)))
+  driven-in-runs =
+      let shown : ℕ → ℕ = λ i. drivenOf (since at i (bytes i)) in
+      ext-getD 0 marked (tab (length driven) shown)
+      (length-mapi _ header ∙ header-long ∙ sym (length-tab (length driven) shown))
+      (λ i l. let h : i < length driven = omega (arith, length-mapi (onRun border (length driven) (λ k x. 1)) header, header-long) in
+      mark-at i h ∙ sym (getD-tab (length driven) shown i 0 h))

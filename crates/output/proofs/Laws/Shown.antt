@@ -23,10 +23,11 @@ use Rattle.command.specs.declared.Command.the-variants.{
   ProgramWord,
   Sleep,
 }
+use Rattle.output.specs.declared.Shown.the-variants.{Silent}
 use Rattle.output.specs.Output.{since, readAt, jedec, identity, shownAt}
 
 module _ (s : State) (m : ℕ → ℕ) (i : ℕ) where
-  pub shows-ignored : shownAt s Ignored m i ≡ 255
+  pub shows-ignored : shownAt s Ignored m i ≡ Silent
   unfolding shownAt
   shows-ignored = refl
 
@@ -50,38 +51,38 @@ module _ (s : State) (m : ℕ → ℕ) (i : ℕ) where
   unfolding shownAt
   shows-read-identity odd = refl
 
-  pub shows-write-enable : shownAt s WriteEnable m i ≡ 255
+  pub shows-write-enable : shownAt s WriteEnable m i ≡ Silent
   unfolding shownAt
   shows-write-enable = refl
 
-  pub shows-write-disable : shownAt s WriteDisable m i ≡ 255
+  pub shows-write-disable : shownAt s WriteDisable m i ≡ Silent
   unfolding shownAt
   shows-write-disable = refl
 
-  pub shows-arm : shownAt s Arm m i ≡ 255
+  pub shows-arm : shownAt s Arm m i ≡ Silent
   unfolding shownAt
   shows-arm = refl
 
-  pub shows-write-status : (byte : ℕ) → shownAt s (WriteStatus byte) m i ≡ 255
+  pub shows-write-status : (byte : ℕ) → shownAt s (WriteStatus byte) m i ≡ Silent
   unfolding shownAt
   shows-write-status byte = refl
 
-  pub shows-erase : (address count time : ℕ) → shownAt s (Erase address count time) m i ≡ 255
+  pub shows-erase : (address count time : ℕ) → shownAt s (Erase address count time) m i ≡ Silent
   unfolding shownAt
   shows-erase address count time = refl
 
-  pub shows-program-byte : (address : ℕ) → shownAt s (ProgramByte address) m i ≡ 255
+  pub shows-program-byte : (address : ℕ) → shownAt s (ProgramByte address) m i ≡ Silent
   unfolding shownAt
   shows-program-byte address = refl
 
-  pub shows-program-page : (address count : ℕ) → shownAt s (ProgramPage address count) m i ≡ 255
+  pub shows-program-page : (address count : ℕ) → shownAt s (ProgramPage address count) m i ≡ Silent
   unfolding shownAt
   shows-program-page address count = refl
 
-  pub shows-program-word : (address from : ℕ) → shownAt s (ProgramWord address from) m i ≡ 255
+  pub shows-program-word : (address from : ℕ) → shownAt s (ProgramWord address from) m i ≡ Silent
   unfolding shownAt
   shows-program-word address from = refl
 
-  pub shows-sleep : shownAt s Sleep m i ≡ 255
+  pub shows-sleep : shownAt s Sleep m i ≡ Silent
   unfolding shownAt
   shows-sleep = refl

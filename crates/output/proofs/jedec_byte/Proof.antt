@@ -1,4 +1,4 @@
--- `output::jedec_byte` meets its contract: bytes 1 to 3, then FF.
+-- `output::jedec_byte` meets its contract: bytes 1 to 3, then nothing.
 -- Assumes nothing.
 use mathlib.Core.Path.{refl}
 use borrow.Author.Tests.{ne-eqb}

@@ -22,13 +22,14 @@ use Rattle.script.proofs.Laws.Records.{all-fit-left, encode-append, encoded-len
 use Rattle.script.proofs.Laws.Decode.{decode-encode}
 use Rattle.script.proofs.Laws.Answers.{answer-told}
 use Rattle.frame.specs.Device.{Device, withState}
+use Rattle.frame.specs.Line.{Line, Long}
 use Rattle.frame.specs.Call.{frameNumber, CutRun}
 use Rattle.frame.proofs.Laws.Accepted as frames
 use Rattle.run.specs.declared.Ran.{Ran}
-use Rattle.run.specs.Run.{run, outputs}
+use Rattle.run.specs.Run.{run, shownByAll}
 use Rattle.run.specs.Script.{scriptNumber, ScriptAccepted, ScriptRun}
 use Rattle.run.proofs.Laws.Accepted.{accepted-number, encoded-accepted}
-use Rattle.run.proofs.Laws.Run.{Ready, outputs-length, frame-accepted-among}
+use Rattle.run.proofs.Laws.Run.{Ready, shown-by-all-long, frame-accepted-among}
 use Rattle.run.proofs.Laws.Script.{ranOf}
 use Rattle.run.proofs.Laws.Prefix.{RanRecords, script-ran-records, records-before-ran, ReadTo, read-goes-on, read-frame, read-wait, RunTo, run-to-start, run-to-end}
 use Rattle.state.specs.declared.Planned.{Planned}
@@ -75,30 +76,30 @@ module _ (wp : Bool) (chip : Device) (start : ℕ) (wanted buffer after : List �
       record { sound = sound-of (chip .state) (a .sound); sized = a .sized }
 
   -- run by the call and accepted: the chip is then the one behind the plan
-  pub accepted-run-finished : (output : List ℕ) {ran : Ran} {chipAfter : Device} {outputAfter : List ℕ}
-      → ScriptRun wp script chip output ran chipAfter outputAfter → ran .number ≡ 0 → Finished wp chip start wanted chipAfter
+  pub accepted-run-finished : (line : Line) {ran : Ran} {chipAfter : Device} {lineAfter : Line}
+      → ScriptRun wp script chip line ran chipAfter lineAfter → ran .number ≡ 0 → Finished wp chip start wanted chipAfter
   unfolding Finished
-  accepted-run-finished output runs good = script-ran-records wp script chip output runs good reads-back .device-is
+  accepted-run-finished line runs good = script-ran-records wp script chip line runs good reads-back .device-is
 
-  module _ (output : List ℕ) (long : length output ≡ outputLength plan) where
-    -- the runner accepts it, with room for its outputs
-    plan-script-accepted : ScriptAccepted wp script chip output
+  module _ (line : Line) (long : Long (outputLength plan) line) where
+    -- the runner accepts it, with room for what it shows
+    plan-script-accepted : ScriptAccepted wp script chip line
     plan-script-accepted =
         let a = accepted-of (chip .state) (chip .array) start wanted wp (length buffer) accepted .region in
         rw script-is
-        (encoded-accepted wp plan chip output (ready .sound) (ready .sized) fit
+        (encoded-accepted wp plan chip line (ready .sound) (ready .sized) fit
         (omega (arith, encoded-length plan, plan-le (chip .state) (chip .array) start wanted (a .short))) long)
 
-    pub plan-script-number : scriptNumber wp script chip output ≡ 0
-    plan-script-number = accepted-number wp script chip output plan-script-accepted
+    pub plan-script-number : scriptNumber wp script chip line ≡ 0
+    plan-script-number = accepted-number wp script chip line plan-script-accepted
 
-    module _ (ran : Ran) (chipAfter : Device) (outputAfter : List ℕ) (runs : ScriptRun wp script chip output ran chipAfter outputAfter) where
+    module _ (ran : Ran) (chipAfter : Device) (lineAfter : Line) (runs : ScriptRun wp script chip line ran chipAfter lineAfter) where
       -- it answers and leaves what the records do
-      did : RanRecords wp plan chip ran chipAfter outputAfter
-      did = script-ran-records wp script chip output runs (runs .number-is ∙ plan-script-number) reads-back
+      did : RanRecords wp plan chip ran chipAfter lineAfter
+      did = script-ran-records wp script chip line runs (runs .number-is ∙ plan-script-number) reads-back
 
       pub run-finished : Finished wp chip start wanted chipAfter
-      run-finished = accepted-run-finished output runs (runs .number-is ∙ plan-script-number)
+      run-finished = accepted-run-finished line runs (runs .number-is ∙ plan-script-number)
 
       pub run-as-planned : Bytes (chip .array) → RunAsPlanned chip start wanted planned ran chipAfter
       run-as-planned bytes =
@@ -116,12 +117,12 @@ module _ (wp : Bool) (chip : Device) (start : ℕ) (wanted buffer after : List �
 
   -- its first records, however many, are run by the call on their bytes alone
   pub plan-front-ran : (before others : List Record) → planRecords (chip .state) (chip .array) start wanted ≡ before ++ others
-      → (output : List ℕ) → length output ≡ outputLength before
-      → ScriptRun wp (encode before) chip output (ranOf (run wp before chip .state) (framesIn before) (microsecondsIn before)) (run wp before chip) (outputs wp before chip)
-  plan-front-ran before others e output long =
-      let whole = plan-script-accepted (outputs wp plan chip) (outputs-length wp plan chip) in
+      → (line : Line) → Long (outputLength before) line
+      → ScriptRun wp (encode before) chip line (ranOf (run wp before chip .state) (framesIn before) (microsecondsIn before)) (run wp before chip) (shownByAll wp before chip)
+  plan-front-ran before others e line long =
+      let whole = plan-script-accepted (shownByAll wp plan chip) (shown-by-all-long wp plan chip) in
       let parts : script ≡ encode before ++ encode others = script-is ∙ ap encode e ∙ encode-append before others in
-      records-before-ran wp before others chip (outputs wp plan chip) (all-fit-left before others (rw e at fit)) (rw parts at whole) output long
+      records-before-ran wp before others chip (shownByAll wp plan chip) (all-fit-left before others (rw e at fit)) (rw parts at whole) line long
 
   -- nothing is run yet. From here `run-to-frame` and `run-to-wait` go on, record by record; or `run-to-front`, by the script's part before an offset that
   -- `read-frame` and `read-wait` have come to
@@ -139,21 +140,21 @@ module _ (wp : Bool) (chip : Device) (start : ℕ) (wanted buffer after : List �
         let same : plan ≡ (so-far .done ++ (r ∷ [])) ++ on .left = cc in
         same ∙ append-assoc (so-far .done) (r ∷ []) (on .left)
 
-    -- the next record is read, and its frame is accepted, with an output of its length
+    -- the next record is read, and its frame is accepted, with a line of its length
     pub next-is-read : numberOf (recordAt script at) ≡ 0
     next-is-read =
-        read-goes-on (so-far .read) (plan-script-accepted (outputs wp plan chip) (outputs-length wp plan chip) .short)
+        read-goes-on (so-far .read) (plan-script-accepted (shownByAll wp plan chip) (shown-by-all-long wp plan chip) .short)
 
-    pub next-frame-accepted : {begin n next : ℕ} → recordAt script at ≡ Frame begin n next → (output : List ℕ) → length output ≡ n
-        → frameNumber wp (take n (drop begin script)) met output ≡ 0
-    next-frame-accepted {begin} {n} {next} e output long =
+    pub next-frame-accepted : {begin n next : ℕ} → recordAt script at ≡ Frame begin n next → (line : Line) → Long n line
+        → frameNumber wp (take n (drop begin script)) met line ≡ 0
+    next-frame-accepted {begin} {n} {next} e line long =
         let f : List ℕ = take n (drop begin script) in
         let on = read-frame (so-far .read) e in
         let there : plan ≡ so-far .done ++ (frame f ∷ on .left) = next-is (frame f) on in
         let told = answer-told script at (Frame begin n next) (sym e) refl in
         rw (so-far .device-is)
-        (frames.accepted-number wp f (run wp (so-far .done) chip) output
-        (frame-accepted-among wp (so-far .done) (on .left) f chip (rw there at fit) ready output (long ∙ sym (told .long))))
+        (frames.accepted-number wp f (run wp (so-far .done) chip) line
+        (frame-accepted-among wp (so-far .done) (on .left) f chip (rw there at fit) ready line (rw (told .long) long)))
 
     -- all are run
     pub all-run-finished : {next : ℕ} → recordAt script at ≡ End next → Finished wp chip start wanted met
@@ -166,16 +167,16 @@ module _ (wp : Bool) (chip : Device) (start : ℕ) (wanted buffer after : List �
     power-up-lost answer is = rw (is, so-far .device-is) (between (so-far .done) (so-far .read .left) parted)
 
     -- it goes inside the frame that the reader answers here: the call "run an interrupted frame", as it is accepted
-    pub cut-frame-lost : {begin n next : ℕ} → recordAt script at ≡ Frame begin n next → (mask output : List ℕ) → Bytes mask
-        → {number : ℕ} {chipAfter : Device} {outputAfter : List ℕ} → CutRun wp (take n (drop begin script)) mask met output number chipAfter outputAfter → number ≡ 0
+    pub cut-frame-lost : {begin n next : ℕ} → recordAt script at ≡ Frame begin n next → (mask : List ℕ) (line : Line) → Bytes mask
+        → {number : ℕ} {chipAfter : Device} {lineAfter : Line} → CutRun wp (take n (drop begin script)) mask met line number chipAfter lineAfter → number ≡ 0
         → PowerLost wp chip start wanted chipAfter
     unfolding PowerLost
-    cut-frame-lost {begin} {n} {next} e mask output bytes {number} {chipAfter} r good =
+    cut-frame-lost {begin} {n} {next} e mask line bytes {number} {chipAfter} r good =
         let f : List ℕ = take n (drop begin script) in
         let on = read-frame (so-far .read) e in
         let there : plan ≡ so-far .done ++ (frame f ∷ on .left) = next-is (frame f) on in
         let taken = sym (r .number-is) ∙ good in
-        rw (r .device-is, so-far .device-is) (inside (so-far .done) (on .left) f mask output there bytes (rw (so-far .device-is) at taken))
+        rw (r .device-is, so-far .device-is) (inside (so-far .done) (on .left) f mask line there bytes (rw (so-far .device-is) at taken))
 
     -- it goes when some of the wait that the reader answers here has passed: the calls "let n microseconds pass" and "power it up again"
     pub cut-wait-lost : {n next : ℕ} → recordAt script at ≡ Wait n next → (m : ℕ) → m ≤ n → (passed answer : Answer) → passed ≡ passTime (met .state) m

@@ -47,8 +47,8 @@ module _ (given : Device) (bp : ℕ) (wel armed : Bool) (wp : Bool) (start : ℕ
             (λ k l. ⊎-elim (λ i. ran .done k i l)
             (λ i. settled-outside array start wanted bytes now (ran .safe .near) k l (within-above start (length wanted) k i)) (split k (start + length wanted)));
         state-is = ran .ends;
-        frames-accepted = λ before after f e output same.
-            accepted-number wp f (run wp before chip) output (frame-accepted-among wp before after f chip (rw e at (plan-fits s array start wanted)) ready output same);
+        frames-accepted = λ before after f e line same.
+            accepted-number wp f (run wp before chip) line (frame-accepted-among wp before after f chip (rw e at (plan-fits s array start wanted)) ready line same);
         waits-accepted = λ before after n m e l. rw (pass-time-granted _ m (run-ready wp before chip ready .sound)) refl;
         powers-up = λ before after e. rw (power-up-granted _ (run-ready wp before chip ready .sound)) refl;
         powers-up-in-wait = λ before after n m e l.

@@ -16,6 +16,7 @@ use Rattle.state.proofs.Laws.Soundness.{sound-of, of-sound}
 use Rattle.script.specs.Record.{Record, frame, wait}
 use Rattle.script.proofs.Laws.Decode.{decode-encode}
 use Rattle.frame.specs.Device.{Device, withState}
+use Rattle.frame.specs.Line.{Line, onLine}
 use Rattle.frame.specs.Ran.{maskWanted, tornDevice}
 use Rattle.frame.specs.Call.{CutAccepted}
 use Rattle.frame.proofs.Laws.Accepted.{number-accepted, cut-number-accepted, cut-accepted-number}
@@ -63,9 +64,9 @@ module _ (given : Device) (bp : ℕ) (wel armed : Bool) (wp : Bool) (start : ℕ
   cut-by P holds after (between rs ss e) =
       let safe = always-between t rs ss chip (rw e at (ran .always)) in
       rw (powered-is (run wp rs chip) (safe .sound)) (holds (run wp rs chip) safe)
-  cut-by P holds after (inside rs ss f mask output e masked good) =
+  cut-by P holds after (inside rs ss f mask line e masked good) =
       let met : Device = run wp rs chip in
-      let cut = cut-accepted wp f met output mask (cut-number-accepted wp f met output mask good) record { device-is = refl; output-is = refl } .device-is in
+      let cut = cut-accepted wp f met line mask (cut-number-accepted wp f met line mask good) record { device-is = refl; line-is = refl } .device-is in
       rw (← cut, torn-is wp f met mask) (holds (torn t f mask met) (always-inside t rs ss f chip (rw e at (ran .always)) mask masked))
   cut-by P holds after (during rs ss n m e part) =
       let met : Device = run wp rs chip in
@@ -124,17 +125,18 @@ behind-ready wp chip start wanted room bytes e after behind =
     at-rest-by wp chip start wanted room e (λ (d : Device). BehindPlan wp d start wanted after → ReadyToPlan (d .state .chip) after)
     (λ bp wel armed a. ⊎-elim (end-ready chip bp wel armed wp start wanted room bytes a after) (cut-ready chip bp wel armed wp start wanted room bytes a after)) behind
 
--- every frame of such a plan can be cut with every mask of the length that it wants: there is an output that the call accepts
+-- every frame of such a plan can be cut with every mask of the length that it wants: there is a line that the call accepts
 pub cut-anywhere : (wp : Bool) (chip : Device) (start : ℕ) (wanted : List ℕ) (room : ℕ) → Bytes (chip .array)
     → planRefusal (chip .state) wp (chip .array) start wanted room ≡ 0 → (before after : List Record) (f mask : List ℕ)
     → planRecords (chip .state) (chip .array) start wanted ≡ before ++ (frame f ∷ after) → Bytes mask → length mask ≡ maskWanted wp f (run wp before chip)
     → CutShort (planRecords (chip .state) (chip .array) start wanted) wp chip (tornDevice wp f mask (run wp before chip))
 cut-anywhere wp chip start wanted room bytes e before after f mask is masked long =
     let met : Device = run wp before chip in
-    let good = power-cut-safe wp chip start wanted room bytes e .uncut .frames-accepted before after f is f refl in
-    let a : CutAccepted wp f mask met f = record { whole = number-accepted wp f met f good; masked = long } in
-    rw (cut-accepted wp f met f mask a record { device-is = refl; output-is = refl } .device-is)
-    (inside before after f mask f is masked (cut-accepted-number wp f met f mask a))
+    let line : Line = onLine f f in
+    let good = power-cut-safe wp chip start wanted room bytes e .uncut .frames-accepted before after f is line record { output-long = refl; driven-long = refl } in
+    let a : CutAccepted wp f mask met line = record { whole = number-accepted wp f met line good; masked = long } in
+    rw (cut-accepted wp f met line mask a record { device-is = refl; line-is = refl } .device-is)
+    (inside before after f mask line is masked (cut-accepted-number wp f met line mask a))
 
 -- and of any planner that gives the same records
 by-records : (plan : Planner) → ((s : State) (array : List ℕ) (start : ℕ) (wanted : List ℕ) → plan s array start wanted ≡ planRecords s array start wanted)

@@ -31,6 +31,7 @@ use Rattle.command.proofs.Laws.Rows.{AllRows, look-elim}
 use Rattle.command.proofs.Laws.Modes.{seen-at-rest}
 use Rattle.registers.proofs.Laws.After.{arms, state-after-armed}
 use Rattle.frame.specs.Device.{Device}
+use Rattle.frame.specs.Line.{Line}
 use Rattle.frame.specs.Call.{Accepted, frameDevice}
 use Rattle.frame.proofs.Laws.Ran.{ran-is}
 use Rattle.rules.specs.Chips.{byChip}
@@ -47,8 +48,8 @@ and-no false e = refl
 isArming : ℕ → Bool
 isArming kind = eqb kind wren || eqb kind ewsr
 
-module _ {wp : Bool} {f : List ℕ} {d : Device} {output : List ℕ} (a : Accepted wp f d output) where
-  armed-after : frameDevice wp f d output .state .armed ≡ arms (commandOf (d .state) wp f)
+module _ {wp : Bool} {f : List ℕ} {d : Device} {line : Line} (a : Accepted wp f d line) where
+  armed-after : frameDevice wp f d line .state .armed ≡ arms (commandOf (d .state) wp f)
   armed-after =
       ap (λ (e : Device). e .state .armed) (sym (done a .device-is) ∙ ran-is wp f d) ∙ state-after-armed (d .state) (commandOf (d .state) wp f)
 
@@ -104,7 +105,7 @@ module _ {wp : Bool} {f : List ℕ} {d : Device} {output : List ℕ} (a : Accept
     armed-at-rest =
         ap arms (seen-at-rest (d .state) f wp r) ∙ armed-by-kind (kindOf (d .state .chip) (opcode f)) ∙ ap (λ (b : Bool). eqb (length f) 1 && b) arming-opcode
 
-  pub armed-is : frameDevice wp f d output .state .armed
+  pub armed-is : frameDevice wp f d line .state .armed
       ≡ (isResting (d .state) && eqb (length f) 1 && isAmong (opcode f) (byChip (d .state .chip) (0x06 ∷ 0x50 ∷ []) (0x06 ∷ [])))
   armed-is =
       armed-after

@@ -15,6 +15,7 @@ use Rattle.command.specs.Fits.{Resting}
 use Rattle.command.proofs.Laws.Rows.{look-elim}
 use Rattle.command.proofs.Laws.Modes.{seen-busy, seen-in-aai, seen-asleep}
 use Rattle.frame.specs.Device.{Device}
+use Rattle.frame.specs.Line.{Line}
 use Rattle.frame.specs.Call.{Accepted}
 use Rattle.rules.specs.Frames.{opcode, isResting}
 use Rattle.rules.proofs.Laws.Does.{by-mode}
@@ -27,7 +28,7 @@ module _ (test : Command → Bool) (none : test Ignored ≡ false) where
   pub fails-when : (c : Command) (t : Bool) → test c ≡ false → test (when t c) ≡ false
   fails-when c t fails = cond-elim Fails t (λ _. fails) (λ _. none)
 
-  module _ {wp : Bool} {f : List ℕ} {d : Device} {output : List ℕ} (a : Accepted wp f d output) where
+  module _ {wp : Bool} {f : List ℕ} {d : Device} {line : Line} (a : Accepted wp f d line) where
     pub at-rest-alone : test ReadStatus ≡ false → test ReadSignature ≡ false → test WriteDisable ≡ false → ((x i : ℕ) → test (ProgramWord x i) ≡ false)
         → {told : Bool} → (isResting (d .state) ≡ false → told ≡ false) → (Resting (d .state) → test (commandOf (d .state) wp f) ≡ told)
         → test (commandOf (d .state) wp f) ≡ told

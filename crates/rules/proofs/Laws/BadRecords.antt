@@ -8,12 +8,12 @@ use Prim.Native.Nat.{ℕ, _+_, _≤_, _<_}
 use native.Mathlib.Omega.{arith}
 use lib.Dec.{ltb, eqb}
 use lib.ListN.{length, getD, drop, length-drop, List·getD-eq-default}
-use borrow.Author.Tests.{eqb-true, eqb-false, eq-eqb, ne-eqb, ltb-true, ltb-false, lt-ltb, le-ltb, not-true}
+use borrow.Author.Tests.{eqb-true, eq-eqb, ne-eqb, ltb-true, ltb-false, lt-ltb, le-ltb}
 use Rattle.common.specs.Bits.{Bytes}
 use Rattle.common.specs.Limits.{longestFrame, longestScript}
 use Rattle.common.specs.Refusals
 use Rattle.common.specs.Refusals.{scriptTooLong, firstOf, Exactly}
-use Rattle.common.proofs.Laws.Booleans.{and-l, and-r, not-i}
+use Rattle.common.proofs.Laws.Booleans.{and-l, and-r}
 use Rattle.common.proofs.Laws.Choice.{cases}
 use Rattle.common.proofs.Laws.Lists.{split}
 use Rattle.script.specs.Record.{frame, wait, scriptMark, frameMark, waitMark, outputLength}
@@ -47,7 +47,9 @@ use Rattle.script.proofs.Laws.Reader.{record-at-long, record-at-past, record-at
 use Rattle.script.proofs.Laws.Decode.{decode-encode, encode-decode}
 use Rattle.script.proofs.Laws.Bad as bad
 use Rattle.script.proofs.Laws.Survey.{fault-numbered, fault-same}
+use Rattle.frame.specs.Line.{Line, isNotLong}
 use Rattle.rules.specs.Conditions.{WrongSum}
+use Rattle.rules.proofs.Laws.Lines.{means-not-long}
 use Rattle.rules.specs.Numbered.{Numbered}
 use Rattle.rules.specs.BadRecords.{Marked, lengthField, UnknownMark, LengthCut, WrongLength, RestCut, inOneRecord, ReaderRefusals, FirstBad, Bad}
 use Rattle.rules.proofs.Laws.Tests.{means-equal, means-less, means-not, means-and, means-or}
@@ -287,21 +289,21 @@ module _ (script : List ℕ) (bytes : Bytes script) where
       alone cutShort t = refl
 
   -- the records of a script that is not bad are its own
-  sum-by : (output : List ℕ) (d : Decoded) → decode script ≡ d → isBad isUnknownMark d ≡ false → isBad isWrongLength d ≡ false → isBad isCutShort d ≡ false
-      → Exactly (not (eqb (length output) (outputLength (recordsIn d))) ≡ true) (WrongSum script output)
-  sum-by output (records rs) e mark long cut = record {
+  sum-by : (line : Line) (d : Decoded) → decode script ≡ d → isBad isUnknownMark d ≡ false → isBad isWrongLength d ≡ false → isBad isCutShort d ≡ false
+      → Exactly (isNotLong (outputLength (recordsIn d)) line ≡ true) (WrongSum script line)
+  sum-by line (records rs) e mark long cut = record {
     when = λ f qs fit is same.
         let both : records qs ≡ records rs = sym (decode-encode qs fit) ∙ ap decode (sym is) ∙ e in
         let one : qs ≡ rs = cc in
-        eqb-false (length output) (outputLength rs) (not-true (eqb (length output) (outputLength rs)) f) (rw one at same);
+        means-not-long line (outputLength rs) .when f (rw one at same);
     only-when = λ wrong.
         let read = encode-decode script rs bytes e in
-        not-i (eqb (length output) (outputLength rs)) (ne-eqb (length output) (outputLength rs) (wrong rs (read .1) (sym (read .0))));
+        means-not-long line (outputLength rs) .only-when (wrong rs (read .1) (sym (read .0)));
   }
-  sum-by output (badAt unknownMark offset) e mark long cut = absurd (true≢false mark)
-  sum-by output (badAt wrongLength offset) e mark long cut = absurd (true≢false long)
-  sum-by output (badAt cutShort offset) e mark long cut = absurd (true≢false cut)
+  sum-by line (badAt unknownMark offset) e mark long cut = absurd (true≢false mark)
+  sum-by line (badAt wrongLength offset) e mark long cut = absurd (true≢false long)
+  sum-by line (badAt cutShort offset) e mark long cut = absurd (true≢false cut)
 
-  pub means-wrong-sum : (output : List ℕ) → isBad isUnknownMark (decode script) ≡ false → isBad isWrongLength (decode script) ≡ false
-      → isBad isCutShort (decode script) ≡ false → Exactly (not (eqb (length output) (outputLength (recordsOf script))) ≡ true) (WrongSum script output)
-  means-wrong-sum output = sum-by output (decode script) refl
+  pub means-wrong-sum : (line : Line) → isBad isUnknownMark (decode script) ≡ false → isBad isWrongLength (decode script) ≡ false
+      → isBad isCutShort (decode script) ≡ false → Exactly (isNotLong (outputLength (recordsOf script)) line ≡ true) (WrongSum script line)
+  means-wrong-sum line = sum-by line (decode script) refl

@@ -223,8 +223,8 @@ module _ (wp : Bool) (chip : Device) (sector : ℕ) (scenes buffer after : List 
   unfolding Plans roomEnough
   marking-rules = record {
     sent = λ at next met sent e. finished-marked met (sent-finished wp chip sector want buffer after planned plans good sent e);
-    run = λ output ran left shown runs accepted.
-        finished-marked left (accepted-run-finished wp chip sector want buffer after planned plans good output runs accepted);
+    run = λ line ran left shown runs accepted.
+        finished-marked left (accepted-run-finished wp chip sector want buffer after planned plans good line runs accepted);
     cut = λ lost c.
         book-cut sector scenes (chip .array) (lost .array) (mark-behind wp chip sector scenes buffer after planned bytes marks good lost (inr (lost-by lost c)));
     again = λ lost room written answer c again enough. again-of lost c .accepted room written answer again enough;

@@ -18,7 +18,8 @@ use Rattle.state.specs.Power.{newChip, powerUp}
 use Rattle.state.specs.Time.{passTime}
 use Rattle.state.proofs.Laws.Soundness.{sound-of}
 use Rattle.frame.specs.Device.{Device}
-use Rattle.frame.specs.Call.{frameNumber, frameDevice, frameOutput, cutNumber, cutDevice, cutOutput, FrameRun, CutRun}
+use Rattle.frame.specs.Line.{Line}
+use Rattle.frame.specs.Call.{frameNumber, frameDevice, frameLineAfter, cutNumber, cutDevice, cutLineAfter, FrameRun, CutRun}
 use Rattle.frame.proofs.Laws.Accepted.{number-accepted, cut-number-accepted}
 use Rattle.frame.proofs.Laws.Determined.{run-frame-determined, run-cut-frame-determined}
 use Rattle.script.specs.Record.{encode, framesIn, microsecondsIn}
@@ -26,7 +27,7 @@ use Rattle.script.specs.Survey.{surveyOf}
 use Rattle.script.specs.Reader.{recordAt, framePart}
 use Rattle.script.proofs.Laws.Values.{record-at-answered}
 use Rattle.run.specs.declared.Ran.{Ran}
-use Rattle.run.specs.Script.{scriptNumber, scriptDevice, scriptOutput, scriptCount, scriptOffset, ScriptRun}
+use Rattle.run.specs.Script.{scriptNumber, scriptDevice, scriptLineAfter, scriptCount, scriptOffset, ScriptRun}
 use Rattle.run.proofs.Laws.Script.{run-script-determined}
 use Rattle.state.specs.declared.Planned.{Planned}
 use Rattle.plan.specs.Refusals.{planRefusal}
@@ -85,6 +86,7 @@ use Rattle.rules.proofs.Laws.Survey.{survey-rules}
 use Rattle.rules.proofs.Laws.Play.{play-rules}
 use Rattle.rules.proofs.Laws.Driver.{no-cut-hurts}
 use Rattle.rules.proofs.Laws.Unread.{unread-rules}
+use Rattle.rules.proofs.Laws.Driven.{driven-rules}
 use Rattle.rules.proofs.Laws.Worst.{worst-rules}
 use Rattle.rules.proofs.Laws.Book.{book-rules}
 use Rattle.rules.proofs.Laws.Salvage.{salvage-rules}
@@ -100,44 +102,44 @@ named a = record { answer = a; given = refl; only = λ other e. e }
 triple : {A B C : Type 0} {a a′ : A} {b b′ : B} {c c′ : C} → (a ≡ a′) × ((b ≡ b′) × (c ≡ c′)) → _≡_ {A = A × (B × C)} (a, (b, c)) (a′, (b′, c′))
 triple e i = (e .0 i, (e .1 .0 i, e .1 .1 i))
 
-frame-answers : (wp : Bool) (f : List ℕ) (d : Device) (output : List ℕ)
-    → One (λ (a : ℕ × (Device × List ℕ)). FrameRun wp f d output (a .0) (a .1 .0) (a .1 .1))
-frame-answers wp f d output =
-    let made : FrameRun wp f d output (frameNumber wp f d output) (frameDevice wp f d output) (frameOutput wp f d output) =
-    record { number-is = refl; device-is = refl; output-is = refl } in
+frame-answers : (wp : Bool) (f : List ℕ) (d : Device) (line : Line)
+    → One (λ (a : ℕ × (Device × Line)). FrameRun wp f d line (a .0) (a .1 .0) (a .1 .1))
+frame-answers wp f d line =
+    let made : FrameRun wp f d line (frameNumber wp f d line) (frameDevice wp f d line) (frameLineAfter wp f d line) =
+    record { number-is = refl; device-is = refl; line-is = refl } in
     record {
-      answer = (frameNumber wp f d output, (frameDevice wp f d output, frameOutput wp f d output));
+      answer = (frameNumber wp f d line, (frameDevice wp f d line, frameLineAfter wp f d line));
       given = made;
-      only = λ other p. triple (run-frame-determined wp f d output _ _ _ _ _ _ p made);
+      only = λ other p. triple (run-frame-determined wp f d line _ _ _ _ _ _ p made);
     }
 
-cut-answers : (wp : Bool) (f mask : List ℕ) (d : Device) (output : List ℕ)
-    → One (λ (a : ℕ × (Device × List ℕ)). CutRun wp f mask d output (a .0) (a .1 .0) (a .1 .1))
-cut-answers wp f mask d output =
-    let made : CutRun wp f mask d output (cutNumber wp f mask d output) (cutDevice wp f mask d output) (cutOutput wp f mask d output) =
-    record { number-is = refl; device-is = refl; output-is = refl } in
+cut-answers : (wp : Bool) (f mask : List ℕ) (d : Device) (line : Line)
+    → One (λ (a : ℕ × (Device × Line)). CutRun wp f mask d line (a .0) (a .1 .0) (a .1 .1))
+cut-answers wp f mask d line =
+    let made : CutRun wp f mask d line (cutNumber wp f mask d line) (cutDevice wp f mask d line) (cutLineAfter wp f mask d line) =
+    record { number-is = refl; device-is = refl; line-is = refl } in
     record {
-      answer = (cutNumber wp f mask d output, (cutDevice wp f mask d output, cutOutput wp f mask d output));
+      answer = (cutNumber wp f mask d line, (cutDevice wp f mask d line, cutLineAfter wp f mask d line));
       given = made;
-      only = λ other p. triple (run-cut-frame-determined wp f d output _ _ _ _ _ _ mask p made);
+      only = λ other p. triple (run-cut-frame-determined wp f d line _ _ _ _ _ _ mask p made);
     }
 
-script-answers : (wp : Bool) (script : List ℕ) (d : Device) (output : List ℕ)
-    → One (λ (a : Ran × (Device × List ℕ)). ScriptRun wp script d output (a .0) (a .1 .0) (a .1 .1))
-script-answers wp script d output =
+script-answers : (wp : Bool) (script : List ℕ) (d : Device) (line : Line)
+    → One (λ (a : Ran × (Device × Line)). ScriptRun wp script d line (a .0) (a .1 .0) (a .1 .1))
+script-answers wp script d line =
     let ran : Ran = record {
-      number = scriptNumber wp script d output;
-      state = scriptDevice wp script d output .state;
-      frames = scriptCount framesIn wp script d output;
-      microseconds = scriptCount microsecondsIn wp script d output;
-      offset = scriptOffset wp script d output;
+      number = scriptNumber wp script d line;
+      state = scriptDevice wp script d line .state;
+      frames = scriptCount framesIn wp script d line;
+      microseconds = scriptCount microsecondsIn wp script d line;
+      offset = scriptOffset wp script d line;
     } in
-    let made : ScriptRun wp script d output ran (scriptDevice wp script d output) (scriptOutput wp script d output) =
-    record { number-is = refl; state-is = refl; frames-are = refl; microseconds-are = refl; offset-is = refl; device-is = refl; output-is = refl } in
+    let made : ScriptRun wp script d line ran (scriptDevice wp script d line) (scriptLineAfter wp script d line) =
+    record { number-is = refl; state-is = refl; frames-are = refl; microseconds-are = refl; offset-is = refl; device-is = refl; line-is = refl } in
     record {
-      answer = (ran, (scriptDevice wp script d output, scriptOutput wp script d output));
+      answer = (ran, (scriptDevice wp script d line, scriptLineAfter wp script d line));
       given = made;
-      only = λ other p. triple (run-script-determined wp script d output _ _ _ _ _ _ p made);
+      only = λ other p. triple (run-script-determined wp script d line _ _ _ _ _ _ p made);
     }
 
 plan-answers : (s : State) (wp : Bool) (array : List ℕ) (start : ℕ) (wanted buffer : List ℕ)
@@ -278,8 +280,8 @@ refusals = record {
   power-up = power-up-refusals;
   pass-time = time-refusals;
   run-frame = frame-refusals;
-  run-cut-frame = λ wp f mask d output. cut-refusals wp f d output mask;
-  run-script = λ wp script d output ran after shown bytes. script-refusals wp script d output bytes ran after shown;
+  run-cut-frame = λ wp f mask d line. cut-refusals wp f d line mask;
+  run-script = λ wp script d line ran after shown bytes. script-refusals wp script d line bytes ran after shown;
   plan-update = plan-refusals;
   survey = survey-rules;
   read = reader-refusals;
@@ -298,9 +300,9 @@ states = record {
   setters = setters;
 }
 
-frames : (wp : Bool) (f : List ℕ) (d : Device) (output : List ℕ) → frameNumber wp f d output ≡ 0 → FrameAsIn01 wp f d output
-frames wp f d output e =
-    let a = number-accepted wp f d output e in
+frames : (wp : Bool) (f : List ℕ) (d : Device) (line : Line) → frameNumber wp f d line ≡ 0 → FrameAsIn01 wp f d line
+frames wp f d line e =
+    let a = number-accepted wp f d line e in
     record {
       rules = frame-rules a;
       reads = reads a;
@@ -308,7 +310,7 @@ frames wp f d output e =
       writes = writes a;
       ruled = ruled a;
       interrupted = λ shows registers change whole mask bytes taken.
-          interrupted a whole mask bytes (cut-number-accepted wp f d output mask taken .masked);
+          interrupted a whole mask bytes (cut-number-accepted wp f d line mask taken .masked);
       wrong-mask = λ shows registers change whole mask other. wrong-mask a whole mask other;
     }
 
@@ -341,4 +343,5 @@ demands-met = record {
   book = book-rules;
   salvage = salvage-rules;
   flags = flags-rules;
+  driven = driven-rules;
 }

@@ -7,7 +7,7 @@ use Prim.Native.Nat.{ℕ, _-_, _<_}
 use native.Mathlib.Omega.{arith}
 use lib.ListN.{length, getD}
 use borrow.Author.Tests.{ltb-true, ltb-false}
-use Rattle.common.specs.Lists.{mapi, tab}
+use Rattle.common.specs.Lists.{mapi}
 use Rattle.common.proofs.Laws.Choice.{cases}
 use Rattle.common.proofs.Laws.Lists.{tab-cong, mapi-cong}
 use Rattle.state.specs.declared.State.{State}
@@ -17,7 +17,9 @@ use Rattle.command.specs.Command.{commandOf}
 use Rattle.command.specs.Fits.{Resting}
 use Rattle.registers.specs.Registers.{stateAfter}
 use Rattle.registers.proofs.Laws.After.{after-ignored}
-use Rattle.output.specs.Output.{memory, shownAt}
+use Rattle.output.specs.declared.Shown.{Shown}
+use Rattle.output.specs.declared.Shown.the-variants.{Silent, Driven}
+use Rattle.output.specs.Output.{byteOf, drivenOf, memory, shownAt}
 use Rattle.output.proofs.Laws.Shown.{shows-ignored}
 use Rattle.effect.specs.declared.Effect.{Effect}
 use Rattle.effect.specs.declared.Effect.the-variants.{Keep}
@@ -25,12 +27,14 @@ use Rattle.effect.specs.Effect.{touches, changed}
 use Rattle.effect.proofs.Laws.Effect.{changed-other}
 use Rattle.effect.proofs.Laws.Straight.{keep-untouched}
 use Rattle.frame.specs.Device.{Device, device}
+use Rattle.frame.specs.Line.{Line, showing}
 use Rattle.frame.specs.Effect.{effectOf}
-use Rattle.frame.specs.Ran.{ranDevice, shown}
+use Rattle.frame.specs.Ran.{ranDevice, shownLine}
 use Rattle.frame.specs.Call.{Accepted, FrameRun}
 use Rattle.frame.proofs.Laws.Call.{frame-accepted}
+use Rattle.frame.proofs.Laws.Line.{line-same}
 use Rattle.frame.proofs.Laws.Ran.{ran-is, shown-is}
-use Rattle.rules.specs.Frames.{Change, unchanged, Does, Ignored}
+use Rattle.rules.specs.Frames.{Change, unchanged, readsAs, markedAs, Does, Ignored}
 
 -- ---- what a command does to the array
 
@@ -44,22 +48,33 @@ changes-nothing {c} f e = record {
   byte-is = λ k x. ap (λ (e : Effect). changed e f k x) e ∙ changed-other Keep f k x (keep-untouched k);
 }
 
+-- ---- the two slices
+
+reads-same : (shown : Shown) → byteOf shown ≡ readsAs shown
+reads-same Silent = refl
+reads-same (Driven byte) = refl
+
+marks-same : (shown : Shown) → drivenOf shown ≡ markedAs shown
+marks-same Silent = refl
+marks-same (Driven byte) = refl
+
 -- ---- an accepted frame
 
-module _ {wp : Bool} {f : List ℕ} {d : Device} {output : List ℕ} (a : Accepted wp f d output) where
-  pub done : FrameRun wp f d output 0 (ranDevice wp f d) (shown wp f d)
-  done = frame-accepted wp f d output a record { device-is = refl; output-is = refl }
+module _ {wp : Bool} {f : List ℕ} {d : Device} {line : Line} (a : Accepted wp f d line) where
+  pub done : FrameRun wp f d line 0 (ranDevice wp f d) (shownLine wp f d)
+  done = frame-accepted wp f d line a record { device-is = refl; line-is = refl }
 
   -- by the command that it is
-  pub does : {c : Command} {shows : ℕ → ℕ} {registers : State} {change : Change} → commandOf (d .state) wp f ≡ c
+  pub does : {c : Command} {shows : ℕ → Shown} {registers : State} {change : Change} → commandOf (d .state) wp f ≡ c
       → ((i : ℕ) → shownAt (d .state) c (memory (d .array)) i ≡ shows i) → stateAfter (d .state) c ≡ registers → Changes c f change
-      → Does wp f d output shows registers change
-  does {c} e shows-is registers-are changes = record {
-    output-is =
-        sym (done .output-is)
+      → Does wp f d line shows registers change
+  does {c} {shows} e shows-is registers-are changes = record {
+    line-is =
+        sym (done .line-is)
         ∙ shown-is wp f d
-        ∙ ap (λ (c : Command). tab (length f) (shownAt (d .state) c (memory (d .array)))) e
-        ∙ tab-cong (length f) _ _ shows-is;
+        ∙ ap (λ (c : Command). showing (length f) (shownAt (d .state) c (memory (d .array)))) e
+        ∙ line-same (tab-cong (length f) _ _ (λ i. ap byteOf (shows-is i) ∙ reads-same (shows i)))
+        (tab-cong (length f) _ _ (λ i. ap drivenOf (shows-is i) ∙ marks-same (shows i)));
     device-is =
         sym (done .device-is)
         ∙ ran-is wp f d
@@ -68,7 +83,7 @@ module _ {wp : Bool} {f : List ℕ} {d : Device} {output : List ℕ} (a : Accept
     touched-are = λ k. ap (λ (c : Command). touches (effectOf c) k) e ∙ changes .touched-is k;
   }
 
-  pub ignored : commandOf (d .state) wp f ≡ Rattle.command.specs.declared.Command.the-variants.Ignored → Ignored wp f d output
+  pub ignored : commandOf (d .state) wp f ≡ Rattle.command.specs.declared.Command.the-variants.Ignored → Ignored wp f d line
   ignored e = does e (λ i. shows-ignored (d .state) (memory (d .array)) i) (after-ignored (d .state)) (changes-nothing f refl)
 
   -- ---- which it is, by mode

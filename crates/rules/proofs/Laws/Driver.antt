@@ -16,6 +16,7 @@ use Rattle.plan.specs.Update.{PlanUpdated}
 use Rattle.powercut.specs.PowerCut.{Finished, PowerLost}
 use Rattle.powercut.proofs.Laws.Calls.{plan-begun, accepted-run-finished, next-is-read, next-frame-accepted, all-run-finished, power-up-lost, cut-frame-lost, cut-wait-lost}
 use Rattle.promises.proofs.Laws.Promises.{promises-kept}
+use Rattle.rules.proofs.Laws.Lines.{long-of-both}
 use Rattle.rules.specs.Driver.{SentTo, none, sends, waits, CutAt, between, inside, during}
 use Rattle.rules.specs.Demands.{NoCutHurts}
 
@@ -36,8 +37,8 @@ module _ (wp : Bool) (chip : Device) (start : ℕ) (wanted buffer after : List �
   -- cut on the way
   pub cut-lost : {lost : Device} → CutAt wp script chip lost → PowerLost wp chip start wanted lost
   cut-lost (between {at} {met} sent) = power-up-lost wp chip start wanted buffer after planned plans good at met (run-to sent) _ refl
-  cut-lost (inside {at} {met = met} {mask = mask} {output = output} sent e bytes ran) =
-      cut-frame-lost wp chip start wanted buffer after planned plans good at met (run-to sent) e mask output bytes ran refl
+  cut-lost (inside {at} {met = met} {mask = mask} {line = line} sent e bytes ran) =
+      cut-frame-lost wp chip start wanted buffer after planned plans good at met (run-to sent) e mask line bytes ran refl
   cut-lost (during {at} {m = m} {met = met} sent e part) =
       cut-wait-lost wp chip start wanted buffer after planned plans good at met (run-to sent) e m part _ _ refl refl
 
@@ -52,13 +53,13 @@ no-cut-hurts wp chip start wanted buffer after planned bytes plans good =
     record {
       each-read = λ at met sent.
           next-is-read wp chip start wanted buffer after planned plans good at met (run-to wp chip start wanted buffer after planned plans good sent);
-      each-accepted = λ at begin n next met output sent e long.
-          next-frame-accepted wp chip start wanted buffer after planned plans good at met (run-to wp chip start wanted buffer after planned plans good sent) e output long;
+      each-accepted = λ at begin n next met line sent e long.
+          next-frame-accepted wp chip start wanted buffer after planned plans good at met (run-to wp chip start wanted buffer after planned plans good sent) e line (long-of-both long);
       cut = λ lost c. kept .partway lost (inr (lost-by lost c));
       again = λ lost room written answer c enough again. again .number ∙ kept .again lost (lost-by lost c) (length room) enough;
       finished = λ lost room written answer at next met c again accepted sent e.
           kept .completed lost met (lost-by lost c) (sent-finished wp lost start wanted room written answer again accepted sent e);
       uncut = λ at next met sent e. kept .finished met (sent-finished wp chip start wanted buffer after planned plans good sent e);
-      run-uncut = λ output ran left shown runs accepted.
-          kept .finished left (accepted-run-finished wp chip start wanted buffer after planned plans good output runs accepted);
+      run-uncut = λ line ran left shown runs accepted.
+          kept .finished left (accepted-run-finished wp chip start wanted buffer after planned plans good line runs accepted);
     }

@@ -33,6 +33,7 @@ use Rattle.command.proofs.Laws.Modes.{writable-is, seen-at-rest}
 use Rattle.effect.specs.Effect.{pageEffect}
 use Rattle.effect.proofs.Laws.Rise.{page-no-erase}
 use Rattle.frame.specs.Device.{Device}
+use Rattle.frame.specs.Line.{Line}
 use Rattle.frame.specs.Effect.{effectOf}
 use Rattle.frame.specs.Call.{Accepted}
 use Rattle.unread.specs.Unread.{isErase}
@@ -98,7 +99,7 @@ module _ (s : State) (wp : Bool) (f : List ℕ) where
 
 -- ---- of a frame
 
-module _ {wp : Bool} {f : List ℕ} {d : Device} {output : List ℕ} (a : Accepted wp f d output) where
+module _ {wp : Bool} {f : List ℕ} {d : Device} {line : Line} (a : Accepted wp f d line) where
   abbrev s : State
   s = d .state
 

@@ -45,7 +45,7 @@ module _ (own : ℕ) (wp : Bool) (chip : Device) (start : ℕ) (wanted : List �
 
     pub done-finished : {done : Device} → Done wp (take (planned .length) after) chip done → Finished wp chip start wanted done
     done-finished (sent to end) = sent-finished wp chip start wanted buffer after planned plan-of good to end
-    done-finished (run {output = output} ran accepted) = accepted-run-finished wp chip start wanted buffer after planned plan-of good output ran accepted
+    done-finished (run {line = line} ran accepted) = accepted-run-finished wp chip start wanted buffer after planned plan-of good line ran accepted
 
     pub lost-power : {lost : Device} → CutAt wp (take (planned .length) after) chip lost → PowerLost wp chip start wanted lost
     lost-power cut = cut-lost wp chip start wanted buffer after planned plan-of good cut

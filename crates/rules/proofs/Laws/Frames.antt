@@ -18,6 +18,7 @@ use Rattle.chip.proofs.Laws.Chip.{regular, known-number}
 use Rattle.command.specs.Command.{look, rows}
 use Rattle.command.proofs.Laws.Modes.{seen-busy, seen-in-aai, seen-asleep, seen-at-rest}
 use Rattle.frame.specs.Device.{Device}
+use Rattle.frame.specs.Line.{Line}
 use Rattle.frame.specs.Call.{Accepted}
 use Rattle.rules.specs.Chips.{byChip}
 use Rattle.rules.specs.Frames.{opcode, Ignored, isAmong, opcodes008A, opcodes05PA, FrameRules}
@@ -43,13 +44,13 @@ kind-unknown (i ∷ is) list op all other =
     rw (among-not op (i .0) list other (and-l (isAmong (i .0) list) (areAmong is list) all))
     (kind-unknown is list op (and-r (isAmong (i .0) list) (areAmong is list) all) other)
 
-module _ {wp : Bool} {f : List ℕ} {d : Device} {output : List ℕ} (a : Accepted wp f d output) where
+module _ {wp : Bool} {f : List ℕ} {d : Device} {line : Line} (a : Accepted wp f d line) where
   -- ---- which are ignored a, by mode
 
-  ignored-busy : 0 < d .state .left → isAmong (opcode f) (0x05 ∷ []) ≡ false → Ignored wp f d output
+  ignored-busy : 0 < d .state .left → isAmong (opcode f) (0x05 ∷ []) ≡ false → Ignored wp f d line
   ignored-busy busy other = ignored a (seen-busy (d .state) f wp busy ∙ rw (or-none-l (eqb (opcode f) 0x05) false other) refl)
 
-  ignored-in-aai : d .state .left ≡ 0 → d .state .aai ≡ true → isAmong (opcode f) (0xad ∷ 0x05 ∷ 0x04 ∷ []) ≡ false → Ignored wp f d output
+  ignored-in-aai : d .state .left ≡ 0 → d .state .aai ≡ true → isAmong (opcode f) (0xad ∷ 0x05 ∷ 0x04 ∷ []) ≡ false → Ignored wp f d line
   ignored-in-aai still aai other =
       let word = among-not (opcode f) 0xad (0xad ∷ 0x05 ∷ 0x04 ∷ []) other refl in
       let status = among-not (opcode f) 0x05 (0xad ∷ 0x05 ∷ 0x04 ∷ []) other refl in
@@ -57,7 +58,7 @@ module _ {wp : Bool} {f : List ℕ} {d : Device} {output : List ℕ} (a : Accept
       ignored a (seen-in-aai (d .state) f wp still aai ∙ rw (word, status, disable) refl)
 
   ignored-asleep : d .state .left ≡ 0 → d .state .aai ≡ false → d .state .«power_down» ≡ true → isAmong (opcode f) (0xab ∷ []) ≡ false
-      → Ignored wp f d output
+      → Ignored wp f d line
   ignored-asleep still single asleep other =
       ignored a (seen-asleep (d .state) f wp still single asleep ∙ rw (or-none-l (eqb (opcode f) 0xab) false other) refl)
 
@@ -65,7 +66,7 @@ module _ {wp : Bool} {f : List ℕ} {d : Device} {output : List ℕ} (a : Accept
 
   unknown-among : (list : List ℕ) → isAmong 0x05 list ≡ true → isAmong 0x04 list ≡ true → isAmong 0xab list ≡ true
       → (d .state .aai ≡ true → isAmong 0xad list ≡ true) → (isAmong (opcode f) list ≡ false → kindOf (d .state .chip) (opcode f) ≡ unknown)
-      → isAmong (opcode f) list ≡ false → Ignored wp f d output
+      → isAmong (opcode f) list ≡ false → Ignored wp f d line
   unknown-among list status disable wake word kind other =
       let none : (known : ℕ) → isAmong known list ≡ true → eqb (opcode f) known ≡ false = λ known listed. among-not (opcode f) known list other listed in
       by-mode a (λ busy. ignored-busy busy (or-none-i (none 0x05 status) refl))
@@ -73,7 +74,7 @@ module _ {wp : Bool} {f : List ℕ} {d : Device} {output : List ℕ} (a : Accept
       (λ still single asleep. ignored-asleep still single asleep (or-none-i (none 0xab wake) refl))
       (λ r. ignored a (seen-at-rest (d .state) f wp r ∙ ap (look (rows (d .state) wp f)) (kind other)))
 
-  ignored-unknown : isAmong (opcode f) (byChip (d .state .chip) opcodes008A opcodes05PA) ≡ false → Ignored wp f d output
+  ignored-unknown : isAmong (opcode f) (byChip (d .state .chip) opcodes008A opcodes05PA) ≡ false → Ignored wp f d line
   ignored-unknown other =
       let known = a .sound .chip-known in
       ⊎-elim
@@ -84,7 +85,7 @@ module _ {wp : Bool} {f : List ℕ} {d : Device} {output : List ℕ} (a : Accept
       (λ n. kind-by-chip (d .state .chip) known (opcode f) ∙ rw e (kind-unknown instructions05PA opcodes05PA (opcode f) refl n)) (rw e at other))
       (known-number (d .state .chip) known)
 
-  pub frame-rules : FrameRules wp f d output
+  pub frame-rules : FrameRules wp f d line
   frame-rules = record {
     kept = mapi-id (λ k x. x) (d .array) (λ k _. refl);
     unknown = ignored-unknown;

@@ -18,6 +18,7 @@ use Rattle.state.specs.Power.{poweredUp}
 use Rattle.state.proofs.Laws.Power.{power-up-granted}
 use Rattle.command.specs.Command.{commandOf}
 use Rattle.command.proofs.Laws.Fits.{fits}
+use Rattle.output.specs.declared.Shown.{Shown}
 use Rattle.effect.specs.declared.Effect.{Effect}
 use Rattle.effect.specs.Effect.{touches, changed}
 use Rattle.effect.specs.Cut.{cut}
@@ -25,7 +26,8 @@ use Rattle.effect.proofs.Laws.Effect.{cut-other}
 use Rattle.effect.proofs.Laws.Mask.{mask-length-counts}
 use Rattle.effect.proofs.Laws.Cut.{cut-bit}
 use Rattle.frame.specs.Device.{Device}
-use Rattle.frame.specs.Ran.{effectAt, stateAt, ranDevice, shown, maskWanted, tornDevice}
+use Rattle.frame.specs.Line.{Line}
+use Rattle.frame.specs.Ran.{effectAt, stateAt, ranDevice, shownLine, maskWanted, tornDevice}
 use Rattle.frame.specs.Call.{Accepted, cutNumber, cutDevice, FrameRun, CutRun}
 use Rattle.frame.proofs.Laws.Inside.{effect-inside}
 use Rattle.frame.proofs.Laws.Accepted.{cut-number-unmasked}
@@ -43,13 +45,13 @@ same-count one other same n =
     plus-none : (n : ℕ) → n ≡ n + 0
     plus-none n = omega arith
 
-module _ {wp : Bool} {f : List ℕ} {d : Device} {output : List ℕ} {shows : ℕ → ℕ} {registers : State} {change : Change} (a : Accepted wp f d output)
-    (whole : Does wp f d output shows registers change) where
+module _ {wp : Bool} {f : List ℕ} {d : Device} {line : Line} {shows : ℕ → Shown} {registers : State} {change : Change} (a : Accepted wp f d line)
+    (whole : Does wp f d line shows registers change) where
   abbrev effect : Effect
   effect = effectAt (d .state) wp f
 
-  ran : FrameRun wp f d output 0 (ranDevice wp f d) (shown wp f d)
-  ran = frame-accepted wp f d output a record { device-is = refl; output-is = refl }
+  ran : FrameRun wp f d line 0 (ranDevice wp f d) (shownLine wp f d)
+  ran = frame-accepted wp f d line a record { device-is = refl; line-is = refl }
 
   mask-wanted : maskWanted wp f d ≡ maskNeeded change d
   mask-wanted =
@@ -58,8 +60,8 @@ module _ {wp : Bool} {f : List ℕ} {d : Device} {output : List ℕ} {shows : �
       ∙ same-count (touches effect) (change .touched) (whole .touched-are) (length (d .array))
 
   -- "mask length wrong"
-  pub wrong-mask : (mask : List ℕ) → (length mask ≡ maskNeeded change d → ⊥) → cutNumber wp f mask d output ≡ wrongMask
-  wrong-mask mask other = cut-number-unmasked wp f d output mask a (λ e. other (e ∙ mask-wanted))
+  pub wrong-mask : (mask : List ℕ) → (length mask ≡ maskNeeded change d → ⊥) → cutNumber wp f mask d line ≡ wrongMask
+  wrong-mask mask other = cut-number-unmasked wp f d line mask a (λ e. other (e ∙ mask-wanted))
 
   registers-are : stateAt (d .state) wp f ≡ registers
   registers-are = ap (λ (e : Device). e .state) (sym (ran-is wp f d) ∙ ran .device-is ∙ whole .device-is)
@@ -73,16 +75,16 @@ module _ {wp : Bool} {f : List ℕ} {d : Device} {output : List ℕ} {shows : �
       ∙ ap (λ (t : Bool). cond t (change .becomes k (getD (d .array) k 0)) (getD (d .array) k 0)) t
 
   module _ (mask : List ℕ) (bytes : Bytes mask) (masked : length mask ≡ maskWanted wp f d) where
-    torn : CutRun wp f mask d output 0 (tornDevice wp f mask d) (shown wp f d)
-    torn = cut-accepted wp f d output mask record { whole = a; masked = masked } record { device-is = refl; output-is = refl }
+    torn : CutRun wp f mask d line 0 (tornDevice wp f mask d) (shownLine wp f d)
+    torn = cut-accepted wp f d line mask record { whole = a; masked = masked } record { device-is = refl; line-is = refl }
 
-    torn-byte : (k : ℕ) → k < length (d .array) → getD (cutDevice wp f mask d output .array) k 0 ≡ cut effect f mask k (getD (d .array) k 0)
+    torn-byte : (k : ℕ) → k < length (d .array) → getD (cutDevice wp f mask d line .array) k 0 ≡ cut effect f mask k (getD (d .array) k 0)
     torn-byte k b =
         ap (λ (e : Device). getD (e .array) k 0) (sym (torn .device-is) ∙ torn-is wp f d mask) ∙ getD-mapi (cut effect f mask) (d .array) k 0 b
 
-    pub interrupted : Interrupted wp f mask d output shows registers change
+    pub interrupted : Interrupted wp f mask d line shows registers change
     interrupted = record {
-      output-is = sym (torn .output-is) ∙ ran .output-is ∙ whole .output-is;
+      line-is = sym (torn .line-is) ∙ ran .line-is ∙ whole .line-is;
       mask-length = masked ∙ mask-wanted;
       touched = λ k b i l t.
           ap (λ (x : ℕ). bitAt x b) (torn-byte k i)

@@ -21,6 +21,7 @@ use Rattle.state.proofs.Laws.Soundness.{sound-of}
 use Rattle.state.proofs.Laws.Power.{power-up-granted, power-up-refused}
 use Rattle.state.proofs.Laws.Passed.{pass-time-granted, pass-time-refused}
 use Rattle.frame.specs.Device.{Device}
+use Rattle.frame.specs.Line.{Line, isNotLong}
 use Rattle.frame.specs.Ran.{maskWanted}
 use Rattle.frame.specs.Call.{frameRefusals, FrameRun, cutRefusals, CutRun}
 use Rattle.frame.proofs.Laws.Accepted.{frame-exactly, cut-exactly}
@@ -37,6 +38,7 @@ use Rattle.plan.specs.Update.{PlanUpdated}
 use Rattle.plan.proofs.Laws.Refusals.{refused-exactly}
 use Rattle.plan.proofs.Laws.Update.{refused-untouched}
 use Rattle.rules.specs.Conditions.{NotSound, WrongFrame, WrongOutput}
+use Rattle.rules.proofs.Laws.Lines.{means-not-long}
 use Rattle.rules.specs.Numbered.{_when_, Numbered}
 use Rattle.rules.specs.BadRecords.{Located}
 use Rattle.rules.specs.Refusals.{
@@ -92,36 +94,36 @@ module _ (s : State) where
 
 -- ---- a frame, whole and interrupted
 
-module _ (wp : Bool) (f : List ℕ) (d : Device) (output : List ℕ) where
+module _ (wp : Bool) (f : List ℕ) (d : Device) (line : Line) where
   abbrev s : State
   s = d .state
 
   means-wrong-frame : Exactly (eqb (length f) 0 || ltb longestFrame (length f) ≡ true) (WrongFrame f)
   means-wrong-frame = means-or (eqb (length f) 0) (ltb longestFrame (length f)) (means-equal (length f) 0) (means-less 4101 (length f))
 
-  means-wrong-output : Exactly (not (eqb (length output) (length f)) ≡ true) (WrongOutput f output)
-  means-wrong-output = means-not (eqb (length output) (length f)) (means-equal (length output) (length f))
+  means-wrong-output : Exactly (isNotLong (length f) line ≡ true) (WrongOutput f line)
+  means-wrong-output = means-not-long line (length f)
 
-  pub frame-refusals : (number : ℕ) (after : Device) (outputAfter : List ℕ) (run : FrameRun wp f d output number after outputAfter)
-      → FrameRefusals wp f d output number after outputAfter run
-  frame-refusals number after outputAfter run = record {
-    numbers = numbered (frameRefusals wp f d output) _ number refl (run .number-is ∙ first-exactly (frameRefusals wp f d output) _ (frame-exactly wp f d output))
+  pub frame-refusals : (number : ℕ) (after : Device) (lineAfter : Line) (run : FrameRun wp f d line number after lineAfter)
+      → FrameRefusals wp f d line number after lineAfter run
+  frame-refusals number after lineAfter run = record {
+    numbers = numbered (frameRefusals wp f d line) _ number refl (run .number-is ∙ first-exactly (frameRefusals wp f d line) _ (frame-exactly wp f d line))
         (row (means-not-sound s) (λ _. refl)
         (λ sound. row (means-wrong-array s (not-false (isSound s) sound) (d .array)) (λ _. refl)
         (λ _. row means-wrong-frame (λ _. refl) (λ _. row means-wrong-output (λ _. refl) (λ _. tt)))));
-    refusal-keeps = frame-refusal-keeps wp f d output run;
+    refusal-keeps = frame-refusal-keeps wp f d line run;
   }
 
-  pub cut-refusals : (mask : List ℕ) (number : ℕ) (after : Device) (outputAfter : List ℕ) (run : CutRun wp f mask d output number after outputAfter)
-      → CutRefusals wp f mask d output number after outputAfter run
-  cut-refusals mask number after outputAfter run = record {
-    numbers = numbered (cutRefusals wp f mask d output) _ number refl (run .number-is ∙ first-exactly (cutRefusals wp f mask d output) _ (cut-exactly wp f d output mask))
+  pub cut-refusals : (mask : List ℕ) (number : ℕ) (after : Device) (lineAfter : Line) (run : CutRun wp f mask d line number after lineAfter)
+      → CutRefusals wp f mask d line number after lineAfter run
+  cut-refusals mask number after lineAfter run = record {
+    numbers = numbered (cutRefusals wp f mask d line) _ number refl (run .number-is ∙ first-exactly (cutRefusals wp f mask d line) _ (cut-exactly wp f d line mask))
         (row (means-not-sound s) (λ _. refl)
         (λ sound. row (means-wrong-array s (not-false (isSound s) sound) (d .array)) (λ _. refl)
         (λ _. row means-wrong-frame (λ _. refl)
         (λ _. row means-wrong-output (λ _. refl)
         (λ _. row (means-not (eqb (length mask) (maskWanted wp f d)) (means-equal (length mask) (maskWanted wp f d))) (λ _. refl) (λ _. tt))))));
-    refusal-keeps = cut-refusal-keeps wp f d output mask run;
+    refusal-keeps = cut-refusal-keeps wp f d line mask run;
   }
 
 -- ---- a plan
@@ -146,32 +148,32 @@ module _ (s : State) (wp : Bool) (array : List ℕ) (start : ℕ) (wanted buffer
 
 -- ---- a script
 
-module _ (wp : Bool) (script : List ℕ) (d : Device) (output : List ℕ) (bytes : Bytes script) where
+module _ (wp : Bool) (script : List ℕ) (d : Device) (line : Line) (bytes : Bytes script) where
   -- the offset is the survey's, where the number is
-  located : Located script (scriptNumber wp script d output) (scriptOffset wp script d output)
+  located : Located script (scriptNumber wp script d line) (scriptOffset wp script d line)
   located = record {
     of-the-first = λ e.
-        let t = means-carried (scriptNumber wp script d output) .only-when e in
-        let number-is = carried-surveyed wp script d output t in
-        let offset-is : scriptOffset wp script d output ≡ surveyOf script .offset = offset-surveyed wp script d output ∙ rw t refl in
+        let t = means-carried (scriptNumber wp script d line) .only-when e in
+        let number-is = carried-surveyed wp script d line t in
+        let offset-is : scriptOffset wp script d line ≡ surveyOf script .offset = offset-surveyed wp script d line ∙ rw t refl in
         rw (number-is, offset-is) (survey-rules script bytes .located .of-the-first (rw number-is at e));
-    else-none = λ never. offset-only wp script d output (carries-none (scriptNumber wp script d output) never);
+    else-none = λ never. offset-only wp script d line (carries-none (scriptNumber wp script d line) never);
   }
 
-  pub script-refusals : (ran : Ran) (after : Device) (outputAfter : List ℕ) (run : ScriptRun wp script d output ran after outputAfter)
-      → ScriptRefusals wp script d output ran after outputAfter bytes run
-  script-refusals ran after outputAfter run = record {
-    numbers = numbered (scriptRefusals wp script d output) _ (ran .number) refl
-        (run .number-is ∙ first-exactly (scriptRefusals wp script d output) _ (script-exactly wp script d output))
+  pub script-refusals : (ran : Ran) (after : Device) (lineAfter : Line) (run : ScriptRun wp script d line ran after lineAfter)
+      → ScriptRefusals wp script d line ran after lineAfter bytes run
+  script-refusals ran after lineAfter run = record {
+    numbers = numbered (scriptRefusals wp script d line) _ (ran .number) refl
+        (run .number-is ∙ first-exactly (scriptRefusals wp script d line) _ (script-exactly wp script d line))
         (row (means-not-sound (d .state)) (λ _. refl)
         (λ sound. row (means-wrong-array (d .state) (not-false (isSound (d .state)) sound) (d .array)) (λ _. refl)
         (λ _. row (means-less 32768 (length script)) (λ _. refl)
         (λ _. row (means-bad-mark script bytes) (λ _. refl)
         (λ mark. row (means-bad-length script bytes) (λ _. refl)
-        (λ long. row (means-bad-cut script bytes) (λ _. refl) (λ cut. row (means-wrong-sum script bytes output mark long cut) (λ _. refl) (λ _. tt))))))));
+        (λ long. row (means-bad-cut script bytes) (λ _. refl) (λ cut. row (means-wrong-sum script bytes line mark long cut) (λ _. refl) (λ _. tt))))))));
     refusal-keeps = λ some.
-        let refused = script-refused wp script d output (λ z. omega (arith, run .number-is, z, some)) in
-        let same = run-script-determined wp script d output _ _ _ _ _ _ run refused in
+        let refused = script-refused wp script d line (λ z. omega (arith, run .number-is, z, some)) in
+        let same = run-script-determined wp script d line _ _ _ _ _ _ run refused in
         (same .0 ∙ rw (run .number-is, run .offset-is) refl, same .1);
     located = rw (run .number-is, run .offset-is) located;
   }

@@ -15,6 +15,7 @@ use Rattle.command.specs.Command.{when, address, look, rows, commandOf}
 use Rattle.command.specs.Fits.{Resting}
 use Rattle.command.proofs.Laws.Modes.{address-is, seen-at-rest}
 use Rattle.frame.specs.Device.{Device}
+use Rattle.frame.specs.Line.{Line}
 use Rattle.frame.specs.Call.{Accepted}
 use Rattle.rules.specs.Chips.{byChip}
 use Rattle.rules.specs.Frames.{opcode}
@@ -28,7 +29,7 @@ pub when-both : (a b : Bool) (c : Command) → when a (when b c) ≡ when (a && 
 when-both true b c = refl
 when-both false b c = refl
 
-module _ {wp : Bool} {f : List ℕ} {d : Device} {output : List ℕ} (a : Accepted wp f d output) where
+module _ {wp : Bool} {f : List ℕ} {d : Device} {line : Line} (a : Accepted wp f d line) where
   -- ---- what the chip's data and the frame give
 
   pub size-is : dataOf (d .state) .size ≡ sizeOf d
@@ -61,7 +62,7 @@ module _ {wp : Bool} {f : List ℕ} {d : Device} {output : List ℕ} (a : Accept
 
   -- taken by a test
   pub row : {t test : Bool} {c : Command} {outcome : Type 0} → commandOf (d .state) wp f ≡ when t c → t ≡ test → (commandOf (d .state) wp f ≡ c → outcome)
-      → TakenIf wp f d output test outcome
+      → TakenIf wp f d line test outcome
   row {t} {test} {c} e same taken = record {
     then = λ h. taken (e ∙ ap (λ (b : Bool). when b c) (same ∙ h));
     else = λ h. ignored a (e ∙ ap (λ (b : Bool). when b c) (same ∙ h));

@@ -12,6 +12,7 @@ use Rattle.common.proofs.Laws.Choice.{cases}
 use Rattle.chip.proofs.Laws.Chip.{regular, known-number}
 use Rattle.command.specs.Fits.{Resting}
 use Rattle.frame.specs.Device.{Device}
+use Rattle.frame.specs.Line.{Line}
 use Rattle.frame.specs.Call.{Accepted}
 use Rattle.rules.specs.Chips.{byChip}
 use Rattle.rules.specs.Frames.{opcode, isAmong, sharedOpcodes, opcodes008A, opcodes05PA}
@@ -32,7 +33,7 @@ use Rattle.rules.specs.Opcodes.{
 use Rattle.rules.proofs.Laws.Does.{by-mode}
 use Rattle.rules.proofs.Laws.Tests.{off}
 
-module _ {wp : Bool} {f : List ℕ} {d : Device} {output : List ℕ} (a : Accepted wp f d output) where
+module _ {wp : Bool} {f : List ℕ} {d : Device} {line : Line} (a : Accepted wp f d line) where
   -- it is the opcode, or another
   either : (op : ℕ) → (opcode f ≡ op → Ruled f d) → (eqb (opcode f) op ≡ false → Ruled f d) → Ruled f d
   either op here other = cases (eqb (opcode f) op) (λ e. here (eqb-true (opcode f) op e)) other

@@ -23,15 +23,18 @@ use Rattle.script.proofs.Laws.Decode.{encode-decode}
 use Rattle.script.proofs.Laws.Marks.{wrong-length-here, decode-bad-behind}
 use Rattle.script.proofs.Laws.Measure.{Counts, counts-none, counts-frame, counts-wait}
 use Rattle.frame.specs.Device.{Device, withState}
+use Rattle.frame.specs.Line.{Line, onLine, noLine}
 use Rattle.frame.specs.Call.{FrameRun}
 use Rattle.run.specs.declared.Ran.{Ran}
-use Rattle.run.specs.Run.{step, outputOf, run, outputs}
+use Rattle.run.specs.Run.{step, shownBy, run, shownByAll}
 use Rattle.run.specs.Script.{scriptNumber, ScriptRun}
-use Rattle.run.proofs.Laws.Run.{run-none, run-first, outputs-none, outputs-frame, outputs-wait, step-by-frame, Ready, run-ready, frame-accepted-ready}
+use Rattle.run.proofs.Laws.Run.{run-none, run-first, shown-none, shown-frame, shown-wait, step-by-frame, Ready, run-ready, frame-accepted-ready}
 use Rattle.run.proofs.Laws.Trace.{step-wait}
 use Rattle.run.proofs.Laws.Accepted.{script-exactly, number-accepted, accepted-number, encoded-accepted}
 use Rattle.run.proofs.Laws.Script.{script-ran, run-script-determined}
 use Rattle.rules.proofs.Laws.Scripts.{wrong-length}
+use Rattle.rules.specs.Conditions.{BothLong}
+use Rattle.rules.proofs.Laws.Lines.{long-of-both}
 use Rattle.rules.specs.Running.{InTurn, runs, waits, ends, Counted, aFrame, aWait, none, RunRules, ScriptRules}
 
 counts-self : (rs : List Record) → Counts rs (scriptLength rs) (framesIn rs) (microsecondsIn rs)
@@ -45,7 +48,7 @@ counted (wait n ∷ rs) = let c = counts-wait (counts-self rs) n in rw (c .frame
 module _ (wp : Bool) where
   -- what each frame and each wait gives, by its own call on a chip that takes it, the records give in their turn
   module _ (P : List Record → Device → Type 0) (none : (d : Device) → P [] d)
-      (framed : (f : List ℕ) (rs : List Record) (d : Device) → FrameRun wp f d f 0 (step wp (frame f) d) (outputOf wp (frame f) d)
+      (framed : (f : List ℕ) (rs : List Record) (d : Device) → FrameRun wp f d (onLine f f) 0 (step wp (frame f) d) (shownBy wp (frame f) d)
       → P rs (step wp (frame f) d) → P (frame f ∷ rs) d)
       (waited : (n : ℕ) (rs : List Record) (d : Device) → passTime (d .state) n .number ≡ 0
       → step wp (wait n) d ≡ withState d (passTime (d .state) n .state) → P rs (step wp (wait n) d) → P (wait n ∷ rs) d) where
@@ -55,27 +58,27 @@ module _ (wp : Bool) where
     pub by-turns : (rs : List Record) (d : Device) → AllFit rs → Ready d → P rs d
     by-turns [] d fit ready = none d
     by-turns (frame f ∷ rs) d fit ready =
-        framed f rs d (step-by-frame wp d f f (frame-accepted-ready wp f d f (fit .0) ready refl))
+        framed f rs d (step-by-frame wp d f (onLine f f) (frame-accepted-ready wp f d (onLine f f) (fit .0) ready record { output-long = refl; driven-long = refl }))
         (by-turns rs (step wp (frame f) d) (fit .1) (step-ready (frame f) d ready))
     by-turns (wait n ∷ rs) d fit ready =
         let granted = pass-time-granted (d .state) n (ready .sound) in
         waited n rs d (ap (λ (a : Answer). a .number) granted) (step-wait wp d n ∙ ap (λ (a : Answer). withState d (a .state)) (sym granted))
         (by-turns rs (step wp (wait n) d) (fit .1) (step-ready (wait n) d ready))
 
-  in-turn : (rs : List Record) (d : Device) → AllFit rs → Ready d → InTurn wp rs d (run wp rs d) (outputs wp rs d)
+  in-turn : (rs : List Record) (d : Device) → AllFit rs → Ready d → InTurn wp rs d (run wp rs d) (shownByAll wp rs d)
   in-turn =
-      by-turns (λ (rs : List Record) (d : Device). InTurn wp rs d (run wp rs d) (outputs wp rs d)) (λ d. rw (run-none wp d, outputs-none wp d) ends)
-      (λ f rs d one rest. rw (run-first wp (frame f) rs d, outputs-frame wp f rs d, one .output-is, one .device-is)
-      (runs f refl (sym (one .number-is)) (rw (one .device-is) at rest)))
-      (λ n rs d given same rest. rw (run-first wp (wait n) rs d, outputs-wait wp n rs d, same) (waits given (rw same at rest)))
+      by-turns (λ (rs : List Record) (d : Device). InTurn wp rs d (run wp rs d) (shownByAll wp rs d)) (λ d. rw (run-none wp d, shown-none wp d) ends)
+      (λ f rs d one rest. rw (run-first wp (frame f) rs d, shown-frame wp f rs d, one .line-is, one .device-is)
+      (runs (onLine f f) (refl, refl) (sym (one .number-is)) (rw (one .device-is) at rest)))
+      (λ n rs d given same rest. rw (run-first wp (wait n) rs d, shown-wait wp n rs d, same) (waits given (rw same at rest)))
 
   -- the records of an accepted script, run
-  pub run-rules : (script : List ℕ) (d : Device) (output : List ℕ) (ran : Ran) (after : Device) (outputAfter : List ℕ) → Bytes script
-      → ScriptRun wp script d output ran after outputAfter → ran .number ≡ 0 → RunRules wp script d ran after outputAfter
-  run-rules script d output ran after outputAfter bytes p e =
-      let a = number-accepted wp script d output (sym (p .number-is) ∙ e) in
+  pub run-rules : (script : List ℕ) (d : Device) (line : Line) (ran : Ran) (after : Device) (lineAfter : Line) → Bytes script
+      → ScriptRun wp script d line ran after lineAfter → ran .number ≡ 0 → RunRules wp script d ran after lineAfter
+  run-rules script d line ran after lineAfter bytes p e =
+      let a = number-accepted wp script d line (sym (p .number-is) ∙ e) in
       let list-is : recordsOf script ≡ a .list = ap recordsIn (a .decoded) in
-      let same = run-script-determined wp script d output ran _ after _ outputAfter _ p (script-ran wp script d output a) in
+      let same = run-script-determined wp script d line ran _ after _ lineAfter _ p (script-ran wp script d line a) in
       let fit = encode-decode script (a .list) bytes (a .decoded) .1 in
       let turn = in-turn (a .list) d fit record { sound = a .sound; sized = a .sized } in
       record {
@@ -89,11 +92,11 @@ module _ (wp : Bool) where
   -- ---- which scripts are accepted
 
   module _ (d : Device) (ready : Ready d) where
-    records-accepted : (rs : List Record) (output : List ℕ) → AllFit rs → length (encode rs) ≤ longestScript → length output ≡ outputLength rs
-        → scriptNumber wp (encode rs) d output ≡ 0
-    records-accepted rs output fit short same =
-        accepted-number wp (encode rs) d output
-        (encoded-accepted wp rs d output (ready .sound) (ready .sized) fit (rw (encoded-length rs) at short) same)
+    records-accepted : (rs : List Record) (line : Line) → AllFit rs → length (encode rs) ≤ longestScript → BothLong line (outputLength rs)
+        → scriptNumber wp (encode rs) d line ≡ 0
+    records-accepted rs line fit short same =
+        accepted-number wp (encode rs) d line
+        (encoded-accepted wp rs d line (ready .sound) (ready .sized) fit (rw (encoded-length rs) at short) (long-of-both same))
 
     sound-row : not (isSound (d .state)) ≡ false
     sound-row = ap not (of-sound (d .state) (ready .sound))
@@ -101,21 +104,21 @@ module _ (wp : Bool) where
     sized-row : not (eqb (length (d .array)) (dataOf (d .state) .size)) ≡ false
     sized-row = rw (eq-eqb (length (d .array)) (dataOf (d .state) .size) (ready .sized)) refl
 
-    wrong-length-13 : (rs : List Record) (bytes output : List ℕ) → AllFit rs → length (encode rs ++ bytes) ≤ longestScript → front bytes ≡ malformed wrongLength
-        → scriptNumber wp (encode rs ++ bytes) d output ≡ 13
-    wrong-length-13 rs bytes output fit short e =
+    wrong-length-13 : (rs : List Record) (bytes : List ℕ) (line : Line) → AllFit rs → length (encode rs ++ bytes) ≤ longestScript → front bytes ≡ malformed wrongLength
+        → scriptNumber wp (encode rs ++ bytes) d line ≡ 13
+    wrong-length-13 rs bytes line fit short e =
         let bad = decode-bad-behind rs bytes fit e in
-        script-exactly wp (encode rs ++ bytes) d output 13 (omega arith) .only-when
+        script-exactly wp (encode rs ++ bytes) d line 13 (omega arith) .only-when
         (sound-row, (sized-row, (le-ltb longestScript (length (encode rs ++ bytes)) short, (rw bad refl, rw bad refl))))
 
     pub script-rules : ScriptRules wp d
     script-rules = record {
-      empty-is-a-script = rw encode-none at (records-accepted [] [] tt (rw encode-none (omega arith)) (sym output-none));
+      empty-is-a-script = rw encode-none at (records-accepted [] noLine tt (rw encode-none (omega arith)) (sym output-none, sym output-none));
       records-are-a-script = records-accepted;
-      too-long-is-none = λ script output long.
-          script-exactly wp script d output 11 (omega arith) .only-when (sound-row, (sized-row, lt-ltb longestScript (length script) long));
-      wrong-length-is-none = λ rs high low rest output fit short wrong.
-          wrong-length-13 rs (0x5a ∷ 0x46 ∷ high ∷ low ∷ rest) output fit short (wrong-length-here high low rest (wrong-length high low wrong));
+      too-long-is-none = λ script line long.
+          script-exactly wp script d line 11 (omega arith) .only-when (sound-row, (sized-row, lt-ltb longestScript (length script) long));
+      wrong-length-is-none = λ rs high low rest line fit short wrong.
+          wrong-length-13 rs (0x5a ∷ 0x46 ∷ high ∷ low ∷ rest) line fit short (wrong-length-here high low rest (wrong-length high low wrong));
       no-output = output-none;
       frame-output = output-frame;
       wait-output = output-wait;

@@ -105,11 +105,11 @@ every-call-sound = record {
   new-chip = λ number answer e. ap (λ (a : Answer). isSound (a .state)) e ∙ new-sound number;
   power-up = λ s answer e h. ap (λ (a : Answer). isSound (a .state)) e ∙ power-up-sound s h;
   pass-time = λ s n answer e h. ap (λ (a : Answer). isSound (a .state)) e ∙ pass-time-sound s n h;
-  run-frame = λ wp f d output number after shown r h. ap (λ (e : Device). isSound (e .state)) (r .device-is) ∙ frame-sound wp f d output h;
-  run-cut-frame = λ wp f mask d output number after shown r h. ap (λ (e : Device). isSound (e .state)) (r .device-is) ∙ cut-sound wp f d output mask h;
-  run-script = λ wp script d output ran after shown r h. (
-    ap isSound (r .state-is) ∙ script-sound wp script d output h,
-    ap (λ (e : Device). isSound (e .state)) (r .device-is) ∙ script-sound wp script d output h,
+  run-frame = λ wp f d line number after shown r h. ap (λ (e : Device). isSound (e .state)) (r .device-is) ∙ frame-sound wp f d line h;
+  run-cut-frame = λ wp f mask d line number after shown r h. ap (λ (e : Device). isSound (e .state)) (r .device-is) ∙ cut-sound wp f d line mask h;
+  run-script = λ wp script d line ran after shown r h. (
+    ap isSound (r .state-is) ∙ script-sound wp script d line h,
+    ap (λ (e : Device). isSound (e .state)) (r .device-is) ∙ script-sound wp script d line h,
   );
   plan-update = λ s wp array start wanted buffer after planned r h. ap isSound (r .state) ∙ h;
   book-is-read = λ s array sector scene told e h. ap (λ (t : Told). isSound (t .state)) e ∙ ap isSound (is-read-state s array sector scene) ∙ h;

@@ -22,6 +22,7 @@ use Rattle.registers.proofs.Laws.After.{after-write-enable, after-write-disable
 use Rattle.output.specs.Output.{memory}
 use Rattle.output.proofs.Laws.Shown.{shows-write-enable, shows-write-disable, shows-arm, shows-write-status, shows-sleep}
 use Rattle.frame.specs.Device.{Device}
+use Rattle.frame.specs.Line.{Line}
 use Rattle.frame.specs.Call.{Accepted}
 use Rattle.rules.specs.Chips.{byChip}
 use Rattle.rules.specs.Frames.{disarmed}
@@ -41,7 +42,7 @@ level-of byte =
     digits : (x : ℕ) → x % 8 ≡ x % 2 + x / 2 % 2 * 2 + x / 2 / 2 % 2 * 4
     digits x = omega arith
 
-module _ {wp : Bool} {f : List ℕ} {d : Device} {output : List ℕ} (a : Accepted wp f d output) where
+module _ {wp : Bool} {f : List ℕ} {d : Device} {line : Line} (a : Accepted wp f d line) where
   not-locked : (bpl : Bool) → (not bpl || wp) ≡ not (bpl && not wp)
   not-locked true = by wp
     where
@@ -60,7 +61,7 @@ module _ {wp : Bool} {f : List ℕ} {d : Device} {output : List ℕ} (a : Accept
       ap (λ (n : ℕ). withWel (withBits (disarmed d) n (dataOf (d .state) .«top_bottom» && eqb (byte / 32 % 2) 1) (eqb (byte / 128 % 2) 1)) false) (level-of byte)
       ∙ ap₂ (λ (x y : Bool). withWel (withBits (disarmed d) (bitAt byte 2 + bitAt byte 3 * 2 + bitAt byte 4 * 4) x y) false) tb bpl
 
-  pub switches : Switches wp f d output
+  pub switches : Switches wp f d line
   switches = record {
     write-enable = λ r e. row a (seen a r (kind-of-both a 0x06 wren refl refl e)) refl
         (λ c. does a c (λ i. shows-write-enable (d .state) (memory (d .array)) i) (after-write-enable (d .state)) (changes-nothing f refl));

@@ -8,7 +8,7 @@ use Rattle.rules.proofs.Laws.Erases.{erases-exactly}
 
 pub unread-rules : UnreadRules
 unread-rules = record {
-  erase-taken = λ wp f d output e. erases-exactly (number-accepted wp f d output e);
+  erase-taken = λ wp f d line e. erases-exactly (number-accepted wp f d line e);
   wait-is-none = λ wp n d. refl;
-  any-script = λ wp script d output ran after shown runs good. rw (runs .device-is) (nothing-turns-unread wp script d output (sym (runs .number-is) ∙ good));
+  any-script = λ wp script d line ran after shown runs good. rw (runs .device-is) (nothing-turns-unread wp script d line (sym (runs .number-is) ∙ good));
 }

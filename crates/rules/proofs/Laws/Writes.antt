@@ -35,6 +35,7 @@ use Rattle.effect.proofs.Laws.Effect.{changed-is, changed-other}
 use Rattle.effect.proofs.Laws.Straight.{fill-touches, fill-struck, program-touches-is, program-struck}
 use Rattle.effect.proofs.Laws.Page.{page-struck, page-touches}
 use Rattle.frame.specs.Device.{Device}
+use Rattle.frame.specs.Line.{Line}
 use Rattle.frame.specs.Effect.{effectOf}
 use Rattle.frame.specs.Call.{Accepted}
 use Rattle.rules.specs.Chips.{byChip, bytesOf}
@@ -96,21 +97,21 @@ changes-page address f carried = record { touched-is = touched; byte-is = byte }
         (λ t. changed-other (pageEffect address (length f - 4)) f k x t
         ∙ ap (λ (b : Bool). cond b (bitAnd x (layDown blank address (drop 4 f) (k % 256))) x) (sym (sym (touched k) ∙ t)))
 
-module _ {wp : Bool} {f : List ℕ} {d : Device} {output : List ℕ} (a : Accepted wp f d output) where
+module _ {wp : Bool} {f : List ℕ} {d : Device} {line : Line} (a : Accepted wp f d line) where
   -- a test on the length, and one on the target
   row-open : {c : Command} {outcome : Type 0} (long : Bool) (address n : ℕ)
       → commandOf (d .state) wp f ≡ when long (when (writable (d .state) (address + n)) c) → (commandOf (d .state) wp f ≡ c → outcome)
-      → TakenIf wp f d output (long && isOpen d address n) outcome
+      → TakenIf wp f d line (long && isOpen d address n) outcome
   row-open {c} long address n e =
       row a (e ∙ when-both long (writable (d .state) (address + n)) c) (ap (λ (b : Bool). long && b) (writable-is (d .state) f (address + n)))
 
   erase-does : (address n time : ℕ) → commandOf (d .state) wp f ≡ Erase address n time
-      → Does wp f d output silent (withLeft (disarmed d) time) (erases address n)
+      → Does wp f d line silent (withLeft (disarmed d) time) (erases address n)
   erase-does address n time e =
       does a e (λ i. shows-erase (d .state) (memory (d .array)) i address n time) (after-erase (d .state) address n time) (changes-erased address n time f)
 
   word-does : (address i : ℕ) → commandOf (d .state) wp f ≡ ProgramWord address i
-      → Does wp f d output silent (withAai (withLeft (disarmed d) 7) true (address + 2)) (programs address 2 i f)
+      → Does wp f d line silent (withAai (withLeft (disarmed d) 7) true (address + 2)) (programs address 2 i f)
   word-does address i e =
       does a e (λ j. shows-program-word (d .state) (memory (d .array)) j address i) (after-program-word (d .state) address i)
       (changes-programmed address 2 i f refl)
@@ -124,7 +125,7 @@ module _ {wp : Bool} {f : List ℕ} {d : Device} {output : List ℕ} (a : Accept
       (λ e. let size : dataOf (d .state) .size ≡ 65536 = size-is a ∙ rw e refl in rw size at (first-border (d .state) .in-size))
       (known-number (d .state .chip) known)
 
-  pub writes : Writes wp f d output
+  pub writes : Writes wp f d line
   writes = record {
     sector-erase = λ r e. row-open (long f 4) (sectorIn f d) 4096
         (seen a r (kind-of-both a 0x20 sectorErase refl refl e)

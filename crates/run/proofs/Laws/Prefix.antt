@@ -25,13 +25,14 @@ use Rattle.script.proofs.Laws.Decode.{decode-encode, encode-decode, decoded-len
 use Rattle.script.proofs.Laws.Answers.{Stands, stands-first, good-not-refused, front-told, answer-told}
 use Rattle.script.proofs.Laws.Reader.{record-at-inside}
 use Rattle.frame.specs.Device.{Device, withState}
+use Rattle.frame.specs.Line.{Line, Long, joined}
 use Rattle.frame.specs.Call.{FrameRun}
 use Rattle.frame.proofs.Laws.Accepted as frames
 use Rattle.run.specs.declared.Ran.{Ran}
-use Rattle.run.specs.Run.{step, run, outputs}
+use Rattle.run.specs.Run.{step, run, shownByAll}
 use Rattle.run.specs.Script.{ScriptAccepted, ScriptRun}
 use Rattle.run.proofs.Laws.Accepted.{number-accepted}
-use Rattle.run.proofs.Laws.Run.{Ready, run-none, run-first, run-append, outputs-append, run-ready, step-by-frame}
+use Rattle.run.proofs.Laws.Run.{Ready, run-none, run-first, run-append, shown-append, run-ready, step-by-frame}
 use Rattle.run.proofs.Laws.Trace.{step-wait}
 use Rattle.run.proofs.Laws.Script.{ranOf, script-ran, run-script-determined}
 
@@ -59,44 +60,44 @@ module _ (first second : List ℕ) (bytes : Bytes (first ++ second)) where
 -- ---- the call on the front part, and on the rest from there
 
 -- what an accepted call answers and leaves, by the records that are read
-pub record RanRecords (wp : Bool) (rs : List Record) (d : Device) (ran : Ran) (after : Device) (out : List ℕ) : Type 0 where
+pub record RanRecords (wp : Bool) (rs : List Record) (d : Device) (ran : Ran) (after : Device) (lineAfter : Line) : Type 0 where
   pub answer-is : ran ≡ ranOf (run wp rs d .state) (framesIn rs) (microsecondsIn rs)
   pub device-is : after ≡ run wp rs d
-  pub output-is : out ≡ outputs wp rs d
+  pub line-is : lineAfter ≡ shownByAll wp rs d
 
-pub script-ran-records : (wp : Bool) (script : List ℕ) (d : Device) (output : List ℕ) {ran : Ran} {after : Device} {out : List ℕ} {rs : List Record}
-    → ScriptRun wp script d output ran after out → ran .number ≡ 0 → decode script ≡ records rs → RanRecords wp rs d ran after out
-script-ran-records wp script d output {ran} {after} {out} {rs} runs good e =
-    let a = number-accepted wp script d output (sym (runs .number-is) ∙ good) in
-    let same = rw e at (run-script-determined wp script d output ran _ after _ out _ runs (script-ran wp script d output a)) in
-    record { answer-is = same .0; device-is = same .1 .0; output-is = same .1 .1 }
+pub script-ran-records : (wp : Bool) (script : List ℕ) (d : Device) (line : Line) {ran : Ran} {after : Device} {lineAfter : Line} {rs : List Record}
+    → ScriptRun wp script d line ran after lineAfter → ran .number ≡ 0 → decode script ≡ records rs → RanRecords wp rs d ran after lineAfter
+script-ran-records wp script d line {ran} {after} {lineAfter} {rs} runs good e =
+    let a = number-accepted wp script d line (sym (runs .number-is) ∙ good) in
+    let same = rw e at (run-script-determined wp script d line ran _ after _ lineAfter _ runs (script-ran wp script d line a)) in
+    record { answer-is = same .0; device-is = same .1 .0; line-is = same .1 .1 }
 
 -- of records one after another
-ran-in-two : {wp : Bool} {rs ss : List Record} {d : Device} {whole earlier later : Ran} {after between behind : Device} {out shown shownThen : List ℕ}
-    → RanRecords wp (rs ++ ss) d whole after out → RanRecords wp rs d earlier between shown → RanRecords wp ss between later behind shownThen
+ran-in-two : {wp : Bool} {rs ss : List Record} {d : Device} {whole earlier later : Ran} {after between behind : Device} {lineAfter shown shownThen : Line}
+    → RanRecords wp (rs ++ ss) d whole after lineAfter → RanRecords wp rs d earlier between shown → RanRecords wp ss between later behind shownThen
     → (whole ≡ ranOf (later .state) (earlier .frames + later .frames) (earlier .microseconds + later .microseconds))
-    × ((after ≡ behind) × (out ≡ shown ++ shownThen))
+    × ((after ≡ behind) × (lineAfter ≡ joined shown shownThen))
 ran-in-two {wp} {rs} {ss} {d} x y z =
     rw (
       x .answer-is,
       x .device-is,
-      x .output-is,
+      x .line-is,
       z .answer-is,
       z .device-is,
-      z .output-is,
+      z .line-is,
       y .answer-is,
       y .device-is,
-      y .output-is,
+      y .line-is,
       run-append wp rs ss d,
-      outputs-append wp rs ss d,
+      shown-append wp rs ss d,
       frames-append rs ss,
       microseconds-append rs ss,
     ) (refl, (refl, refl))
 
-module _ (wp : Bool) (first second : List ℕ) (d : Device) (output : List ℕ) where
-  -- a front part that can be read is accepted where the script is, with an output of its own length
-  pub front-accepted : ScriptAccepted wp (first ++ second) d output → {rs : List Record} → decode first ≡ records rs
-      → (part : List ℕ) → length part ≡ outputLength rs → ScriptAccepted wp first d part
+module _ (wp : Bool) (first second : List ℕ) (d : Device) (line : Line) where
+  -- a front part that can be read is accepted where the script is, with a line of its own length
+  pub front-accepted : ScriptAccepted wp (first ++ second) d line → {rs : List Record} → decode first ≡ records rs
+      → (part : Line) → Long (outputLength rs) part → ScriptAccepted wp first d part
   front-accepted a {rs} e part long = record {
     sound = a .sound;
     sized = a .sized;
@@ -107,8 +108,8 @@ module _ (wp : Bool) (first second : List ℕ) (d : Device) (output : List ℕ) 
   }
 
   -- and so is what follows it, on the chip that the front part leaves
-  pub rest-accepted : ScriptAccepted wp (first ++ second) d output → (rs : List Record) {ss : List Record} → decode second ≡ records ss
-      → (part : List ℕ) → length part ≡ outputLength ss → ScriptAccepted wp second (run wp rs d) part
+  pub rest-accepted : ScriptAccepted wp (first ++ second) d line → (rs : List Record) {ss : List Record} → decode second ≡ records ss
+      → (part : Line) → Long (outputLength ss) part → ScriptAccepted wp second (run wp rs d) part
   rest-accepted a rs {ss} e part long =
       let ready = run-ready wp rs d record { sound = a .sound; sized = a .sized } in
       record {
@@ -120,26 +121,26 @@ module _ (wp : Bool) (first second : List ℕ) (d : Device) (output : List ℕ) 
         same = long;
       }
 
-  -- the two calls together do what the one call does: the same chip, the outputs one after the other, the counts added
-  pub run-in-two : Bytes (first ++ second) → {whole earlier later : Ran} {after between behind : Device} {part others out shown shownThen : List ℕ}
-      → ScriptRun wp (first ++ second) d output whole after out → whole .number ≡ 0
+  -- the two calls together do what the one call does: the same chip, what they show one after the other, the counts added
+  pub run-in-two : Bytes (first ++ second) → {whole earlier later : Ran} {after between behind : Device} {part others lineAfter shown shownThen : Line}
+      → ScriptRun wp (first ++ second) d line whole after lineAfter → whole .number ≡ 0
       → ScriptRun wp first d part earlier between shown → earlier .number ≡ 0
       → ScriptRun wp second between others later behind shownThen → later .number ≡ 0
       → (whole ≡ ranOf (later .state) (earlier .frames + later .frames) (earlier .microseconds + later .microseconds))
-      × ((after ≡ behind) × (out ≡ shown ++ shownThen))
-  run-in-two bytes {whole} {earlier} {later} {after} {between} {behind} {part} {others} {out} {shown} {shownThen} w good e goodFirst l goodSecond =
+      × ((after ≡ behind) × (lineAfter ≡ joined shown shownThen))
+  run-in-two bytes {whole} {earlier} {later} {after} {between} {behind} {part} {others} {lineAfter} {shown} {shownThen} w good e goodFirst l goodSecond =
       let a = number-accepted wp first d part (sym (e .number-is) ∙ goodFirst) in
       let b = number-accepted wp second between others (sym (l .number-is) ∙ goodSecond) in
-      ran-in-two (script-ran-records wp (first ++ second) d output w good (decode-parts first second bytes (a .decoded) (b .decoded)))
+      ran-in-two (script-ran-records wp (first ++ second) d line w good (decode-parts first second bytes (a .decoded) (b .decoded)))
       (script-ran-records wp first d part e goodFirst (a .decoded)) (script-ran-records wp second between others l goodSecond (b .decoded))
 
 -- a script of records one after another: the call on those before alone is accepted, and leaves the chip behind them
-pub records-before-ran : (wp : Bool) (before after : List Record) (d : Device) (output : List ℕ) → AllFit before
-    → ScriptAccepted wp (encode before ++ encode after) d output → (part : List ℕ) → length part ≡ outputLength before
-    → ScriptRun wp (encode before) d part (ranOf (run wp before d .state) (framesIn before) (microsecondsIn before)) (run wp before d) (outputs wp before d)
-records-before-ran wp before after d output fit a part long =
+pub records-before-ran : (wp : Bool) (before after : List Record) (d : Device) (line : Line) → AllFit before
+    → ScriptAccepted wp (encode before ++ encode after) d line → (part : Line) → Long (outputLength before) part
+    → ScriptRun wp (encode before) d part (ranOf (run wp before d .state) (framesIn before) (microsecondsIn before)) (run wp before d) (shownByAll wp before d)
+records-before-ran wp before after d line fit a part long =
     let e = decode-encode before fit in
-    rw e at (script-ran wp (encode before) d part (front-accepted wp (encode before) (encode after) d output a e part long))
+    rw e at (script-ran wp (encode before) d part (front-accepted wp (encode before) (encode after) d line a e part long))
 
 -- ---- record by record, as the reader answers
 
@@ -225,19 +226,19 @@ pub run-to-start : {wp : Bool} {script : List ℕ} {d : Device} {rs : List Recor
 run-to-start {wp} {script} {d} ready e = record { done = []; read = read-start e; ready = ready; device-is = sym (run-none wp d) }
 
 -- by the call "run a script": the part before an offset that the reader has come to
-pub run-to-front : {wp : Bool} {script first : List ℕ} {d now : Device} {output out : List ℕ} {ran : Ran} {at : ℕ} {rs : List Record} → Bytes script
-    → ReadTo script at rs → first ≡ take at script → ScriptRun wp first d output ran now out → ran .number ≡ 0 → RunTo wp script d at now
-run-to-front {wp} {script} {first} {d} {now} {output} {out} {ran} {at} {rs} bytes h front runs good =
-    let a = number-accepted wp first d output (sym (runs .number-is) ∙ good) in
-    let did = script-ran-records wp first d output runs good (ap decode front ∙ read-front h bytes) in
+pub run-to-front : {wp : Bool} {script first : List ℕ} {d now : Device} {line lineAfter : Line} {ran : Ran} {at : ℕ} {rs : List Record} → Bytes script
+    → ReadTo script at rs → first ≡ take at script → ScriptRun wp first d line ran now lineAfter → ran .number ≡ 0 → RunTo wp script d at now
+run-to-front {wp} {script} {first} {d} {now} {line} {lineAfter} {ran} {at} {rs} bytes h front runs good =
+    let a = number-accepted wp first d line (sym (runs .number-is) ∙ good) in
+    let did = script-ran-records wp first d line runs good (ap decode front ∙ read-front h bytes) in
     let ready : Ready d = record { sound = a .sound; sized = a .sized } in
     record { done = rs; read = h; ready = rw (did .device-is) (run-ready wp rs d ready); device-is = did .device-is }
 
 -- and the first of two parts that can be read
-pub run-to-first : {wp : Bool} (first second : List ℕ) {d now : Device} {output out : List ℕ} {ran : Ran} {ss : List Record} → Bytes (first ++ second)
-    → decode second ≡ records ss → ScriptRun wp first d output ran now out → ran .number ≡ 0 → RunTo wp (first ++ second) d (length first) now
-run-to-first {wp} first second {d} {now} {output} bytes e runs good =
-    let a = number-accepted wp first d output (sym (runs .number-is) ∙ good) in
+pub run-to-first : {wp : Bool} (first second : List ℕ) {d now : Device} {line lineAfter : Line} {ran : Ran} {ss : List Record} → Bytes (first ++ second)
+    → decode second ≡ records ss → ScriptRun wp first d line ran now lineAfter → ran .number ≡ 0 → RunTo wp (first ++ second) d (length first) now
+run-to-first {wp} first second {d} {now} {line} bytes e runs good =
+    let a = number-accepted wp first d line (sym (runs .number-is) ∙ good) in
     run-to-front bytes (read-parts first second bytes (a .decoded) e) (sym (take-append-seam first second)) runs good
 
 module _ {wp : Bool} {script : List ℕ} {begun now : Device} {at : ℕ} (h : RunTo wp script begun at now) where
@@ -252,12 +253,12 @@ module _ {wp : Bool} {script : List ℕ} {begun now : Device} {at : ℕ} (h : Ru
       }
 
   -- the frame that the reader answers, by the call "run a frame"
-  pub run-to-frame : {start n next : ℕ} → recordAt script at ≡ Frame start n next → {output out : List ℕ} {number : ℕ} {after : Device}
-      → FrameRun wp (take n (drop start script)) now output number after out → number ≡ 0 → RunTo wp script begun next after
-  run-to-frame {start} {n} {next} e {output} {out} {number} {after} ran good =
+  pub run-to-frame : {start n next : ℕ} → recordAt script at ≡ Frame start n next → {line lineAfter : Line} {number : ℕ} {after : Device}
+      → FrameRun wp (take n (drop start script)) now line number after lineAfter → number ≡ 0 → RunTo wp script begun next after
+  run-to-frame {start} {n} {next} e {line} {lineAfter} {number} {after} ran good =
       let f : List ℕ = take n (drop start script) in
       run-on (frame f) (read-frame (h .read) e)
-      (ran .device-is ∙ sym (step-by-frame wp now f output (frames.number-accepted wp f now output (sym (ran .number-is) ∙ good)) .device-is))
+      (ran .device-is ∙ sym (step-by-frame wp now f line (frames.number-accepted wp f now line (sym (ran .number-is) ∙ good)) .device-is))
 
   -- the wait, by the call "let n microseconds pass"
   pub run-to-wait : {n next : ℕ} → recordAt script at ≡ Wait n next → {answer : Answer} → answer ≡ passTime (now .state) n

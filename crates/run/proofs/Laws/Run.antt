@@ -1,11 +1,10 @@
--- The laws of `run` and `outputs`: records one after another (`-append`), how long the outputs are, and what every run keeps.
+-- The laws of `run` and `shownByAll`: records one after another (`-append`), how long their line is, and what every run keeps.
 -- Assumes nothing.
 use mathlib.Core.Path.{_≡_, refl, sym, ap, _∙_}
 use mathlib.Core.Bool.{Bool}
-use mathlib.Core.List.{List, [], _∷_, _++_, append-assoc}
+use mathlib.Core.List.{List, [], _∷_, _++_}
 use Prim.Native.Nat.{ℕ}
-use native.Mathlib.Omega.{arith}
-use lib.ListN.{length, length-append}
+use lib.ListN.{length}
 use Rattle.state.specs.State.{dataOf}
 use Rattle.state.specs.Answer.{granted}
 use Rattle.state.specs.Soundness.{Sound}
@@ -15,11 +14,13 @@ use Rattle.state.proofs.Laws.Time.{time-passed-sound}
 use Rattle.script.specs.Record.{Record, frame, wait, Fits, AllFit, outputLength}
 use Rattle.script.proofs.Laws.Records.{all-fit-right, output-none, output-frame, output-wait}
 use Rattle.frame.specs.Device.{Device, withState}
+use Rattle.frame.specs.Line.{Line, Long, noLine, joined}
 use Rattle.frame.specs.Ran.{ranDevice}
 use Rattle.frame.specs.Call.{Accepted, FrameRun}
 use Rattle.frame.proofs.Laws.Call.{frame-accepted}
-use Rattle.frame.proofs.Laws.Ran.{ran-sound, ran-chip, ran-length, shown-length}
-use Rattle.run.specs.Run.{step, outputOf, run, outputs}
+use Rattle.frame.proofs.Laws.Line.{joined-joined, joined-long}
+use Rattle.frame.proofs.Laws.Ran.{ran-sound, ran-chip, ran-length, shown-long}
+use Rattle.run.specs.Run.{step, shownBy, run, shownByAll}
 
 -- ---- one after another
 
@@ -32,57 +33,52 @@ module _ (wp : Bool) where
   unfolding run
   run-first r rs d = refl
 
-  pub outputs-none : (d : Device) → outputs wp [] d ≡ []
-  unfolding outputs
-  outputs-none d = refl
+  pub shown-none : (d : Device) → shownByAll wp [] d ≡ noLine
+  unfolding shownByAll
+  shown-none d = refl
 
-  pub outputs-frame : (f : List ℕ) (rs : List Record) (d : Device)
-      → outputs wp (frame f ∷ rs) d ≡ outputOf wp (frame f) d ++ outputs wp rs (step wp (frame f) d)
-  unfolding outputs
-  outputs-frame f rs d = refl
+  pub shown-frame : (f : List ℕ) (rs : List Record) (d : Device)
+      → shownByAll wp (frame f ∷ rs) d ≡ joined (shownBy wp (frame f) d) (shownByAll wp rs (step wp (frame f) d))
+  unfolding shownByAll
+  shown-frame f rs d = refl
 
-  -- a wait has no output
-  pub outputs-wait : (n : ℕ) (rs : List Record) (d : Device) → outputs wp (wait n ∷ rs) d ≡ outputs wp rs (step wp (wait n) d)
-  unfolding outputs outputOf
-  outputs-wait n rs d = refl
+  -- a wait shows nothing
+  pub shown-wait : (n : ℕ) (rs : List Record) (d : Device) → shownByAll wp (wait n ∷ rs) d ≡ shownByAll wp rs (step wp (wait n) d)
+  unfolding shownByAll shownBy
+  shown-wait n rs d = refl
 
   pub run-append : (rs ss : List Record) (d : Device) → run wp (rs ++ ss) d ≡ run wp ss (run wp rs d)
   unfolding run
   run-append [] ss d = refl
   run-append (r ∷ rs) ss d = run-append rs ss (step wp r d)
 
-  pub outputs-append : (rs ss : List Record) (d : Device) → outputs wp (rs ++ ss) d ≡ outputs wp rs d ++ outputs wp ss (run wp rs d)
-  unfolding run outputs
-  outputs-append [] ss d = refl
-  outputs-append (r ∷ rs) ss d = rw (outputs-append rs ss (step wp r d), append-assoc) refl
+  pub shown-append : (rs ss : List Record) (d : Device)
+      → shownByAll wp (rs ++ ss) d ≡ joined (shownByAll wp rs d) (shownByAll wp ss (run wp rs d))
+  unfolding run shownByAll
+  shown-append [] ss d = refl
+  shown-append (r ∷ rs) ss d =
+      ap (joined (shownBy wp r d)) (shown-append rs ss (step wp r d))
+      ∙ sym (joined-joined (shownBy wp r d) (shownByAll wp rs (step wp r d)) (shownByAll wp ss (run wp rs (step wp r d))))
 
-  -- a frame's output is as long as the frame
-  pub output-length : (f : List ℕ) (d : Device) → length (outputOf wp (frame f) d) ≡ length f
-  unfolding outputOf
-  output-length f d = shown-length wp f d
+  -- a frame's line is as long as the frame
+  pub shown-by-long : (f : List ℕ) (d : Device) → Long (length f) (shownBy wp (frame f) d)
+  unfolding shownBy
+  shown-by-long f d = shown-long wp f d
 
-  pub outputs-length : (rs : List Record) (d : Device) → length (outputs wp rs d) ≡ outputLength rs
-  outputs-length [] d = ap length (outputs-none d) ∙ sym output-none
-  outputs-length (frame f ∷ rs) d =
-      let others : List ℕ = outputs wp rs (step wp (frame f) d) in
-      omega (
-        arith,
-        ap length (outputs-frame f rs d),
-        length-append (outputOf wp (frame f) d) others,
-        output-length f d,
-        outputs-length rs (step wp (frame f) d),
-        output-frame f rs,
-      )
-  outputs-length (wait n ∷ rs) d =
-      ap length (outputs-wait n rs d) ∙ outputs-length rs (step wp (wait n) d) ∙ sym (output-wait n rs)
+  pub shown-by-all-long : (rs : List Record) (d : Device) → Long (outputLength rs) (shownByAll wp rs d)
+  shown-by-all-long [] d = rw (shown-none d, output-none) record { output-long = refl; driven-long = refl }
+  shown-by-all-long (frame f ∷ rs) d =
+      rw (shown-frame f rs d, output-frame f rs)
+      (joined-long (shownBy wp (frame f) d) (shownByAll wp rs (step wp (frame f) d)) (shown-by-long f d) (shown-by-all-long rs (step wp (frame f) d)))
+  shown-by-all-long (wait n ∷ rs) d = rw (shown-wait n rs d, output-wait n rs) (shown-by-all-long rs (step wp (wait n) d))
 
 -- ---- each record by its own call
 
 module _ (wp : Bool) (d : Device) where
   -- a frame that its call accepts
-  pub step-by-frame : (f output : List ℕ) → Accepted wp f d output → FrameRun wp f d output 0 (step wp (frame f) d) (outputOf wp (frame f) d)
-  unfolding step outputOf
-  step-by-frame f output a = frame-accepted wp f d output a record { device-is = refl; output-is = refl }
+  pub step-by-frame : (f : List ℕ) (line : Line) → Accepted wp f d line → FrameRun wp f d line 0 (step wp (frame f) d) (shownBy wp (frame f) d)
+  unfolding step shownBy
+  step-by-frame f line a = frame-accepted wp f d line a record { device-is = refl; line-is = refl }
 
   pub step-by-wait : (n : ℕ) → Sound (d .state) → passTime (d .state) n ≡ granted (step wp (wait n) d .state)
   unfolding step
@@ -124,12 +120,12 @@ run-ready wp rs d h = record {
   sized = rw (run-chip wp rs d) (run-array-length wp rs d ∙ h .sized);
 }
 
--- with an output as long as the frame
-pub frame-accepted-ready : (wp : Bool) (f : List ℕ) (d : Device) (output : List ℕ) → Fits (frame f) → Ready d → length output ≡ length f → Accepted wp f d output
-frame-accepted-ready wp f d output k h same = record { sound = h .sound; sized = h .sized; some = k .0; short = k .1; same = same }
+-- with a line as long as the frame
+pub frame-accepted-ready : (wp : Bool) (f : List ℕ) (d : Device) (line : Line) → Fits (frame f) → Ready d → Long (length f) line → Accepted wp f d line
+frame-accepted-ready wp f d line k h same = record { sound = h .sound; sized = h .sized; some = k .0; short = k .1; same = same }
 
 -- wherever it stands among records that fit
 pub frame-accepted-among : (wp : Bool) (rs ss : List Record) (f : List ℕ) (d : Device) → AllFit (rs ++ (frame f ∷ ss)) → Ready d
-    → (output : List ℕ) → length output ≡ length f → Accepted wp f (run wp rs d) output
-frame-accepted-among wp rs ss f d k h output same =
-    frame-accepted-ready wp f (run wp rs d) output (all-fit-right rs (frame f ∷ ss) k .0) (run-ready wp rs d h) same
+    → (line : Line) → Long (length f) line → Accepted wp f (run wp rs d) line
+frame-accepted-among wp rs ss f d k h line same =
+    frame-accepted-ready wp f (run wp rs d) line (all-fit-right rs (frame f ∷ ss) k .0) (run-ready wp rs d h) same

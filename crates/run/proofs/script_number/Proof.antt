@@ -16,11 +16,11 @@ use Rattle.run.proofs.script_number.Statement.{statement}
 use Rattle.run.proofs.script_number.Tie as tie
 
 -- 1 and 2 are passed
-sound : (c : tie.Else1) → not (isSound (c .before .before .before .before .before .args .s)) ≡ false
+sound : (c : tie.Else1) → not (isSound (c .before .before .before .before .before .before .args .s)) ≡ false
 sound c = rw (c .before .is-sound .ensures) at (c .if1 .left)
 
 sized : (c : tie.Else2)
-    → let a = c .before .before .before .before .before .before .before .before .args in not (eqb (length (a .array .now)) (dataOf (a .s) .size)) ≡ false
+    → let a = c .before .before .before .before .before .before .before .before .before .args in not (eqb (length (a .array .now)) (dataOf (a .s) .size)) ≡ false
 sized c = ap not (eq-eqb _ _ (rw (c .before .before .chip-of .ensures) at (c .if2 .left)))
 
 is-sound-requires : tie.Need-is-sound-requires
@@ -42,30 +42,29 @@ returns-2 c =
 
 returns-3 : tie.Need-returns-3
 returns-3 c =
-    let p = c .before .before .before .before .before .before .before .before .before .before in
+    let p = c .before .before .before .before .before .before .before .before .before .before .before in
     ap (λ (v : Surveyed). v .number) (p .pre)
     ∙ no _ (sound (c .before .before .before .before .before)) (no _ (sized (c .before .before)) (yes _ (ap not (ne-eqb _ 0 (rw (p .pre) at (c .if3 .taken)))) refl))
     ∙ sym (number-surveyed _ _ _ _)
 
 -- the script's own refusals are passed
 surveyed : (c : tie.Else3)
-    → let a = c .before .before .before .before .before .before .before .before .before .before .args in not (eqb (surveyOf (a .script .now) .number) 0) ≡ false
+    → let a = c .before .before .before .before .before .before .before .before .before .before .before .args in not (eqb (surveyOf (a .script .now) .number) 0) ≡ false
 surveyed c =
-    let p = c .before .before .before .before .before .before .before .before .before .before in ap not (eq-eqb _ 0 (rw (p .pre) at (c .if3 .left)))
+    let p = c .before .before .before .before .before .before .before .before .before .before .before in ap not (eq-eqb _ 0 (rw (p .pre) at (c .if3 .left)))
 
 returns-4 : tie.Need-returns-4
 returns-4 c =
-    let p = c .before .before .before .before .before .before .before .before .before .before .before .before in
-    no _ (sound (c .before .before .before .before .before .before .before))
-    (no _ (sized (c .before .before .before .before))
-    (no _ (surveyed (c .before .before)) (yes _ (ap not (ne-eqb _ _ (rw (p .pre) at (c .if4 .taken)))) refl)))
+    let p = c .before .before .before .before .before .before .before .before .before .before .before .before .before .before in
+    no _ (sound (c .before .before .before .before .before .before .before .before))
+    (no _ (sized (c .before .before .before .before .before)) (no _ (surveyed (c .before .before .before)) (yes _ (rw (p .pre) at (c .if4 .taken)) refl)))
     ∙ sym (number-surveyed _ _ _ _)
 
 returns-5 : tie.Need-returns-5
 returns-5 c =
-    let p = c .before .before .before .before .before .before .before .before .before .before .before .before in
-    no _ (sound (c .before .before .before .before .before .before .before))
-    (no _ (sized (c .before .before .before .before)) (no _ (surveyed (c .before .before)) (no _ (ap not (eq-eqb _ _ (rw (p .pre) at (c .if4 .left)))) refl)))
+    let p = c .before .before .before .before .before .before .before .before .before .before .before .before .before .before in
+    no _ (sound (c .before .before .before .before .before .before .before .before))
+    (no _ (sized (c .before .before .before .before .before)) (no _ (surveyed (c .before .before .before)) (no _ (rw (p .pre) at (c .if4 .left)) refl)))
     ∙ sym (number-surveyed _ _ _ _)
 
 pub script-number-spec : {M : Type 1} → statement M

@@ -2,14 +2,14 @@
 -- Assumes nothing.
 use mathlib.Core.Path.{_≡_, refl, sym, ap, _∙_}
 use mathlib.Core.Bool.{Bool, true, false, _&&_, not}
-use mathlib.Core.List.{List, [], _∷_}
+use mathlib.Core.List.{List, [], _∷_, _++_}
 use Prim.Native.Nat.{ℕ, _<_}
 use native.Mathlib.Omega.{arith}
 use lib.Dec.{leb, ltb, eqb}
 use lib.ListN.{length, getD}
 use borrow.Author.Tests.{eqb-true, ltb-true, leb-true}
 use Rattle.common.specs.Limits.{longestFrame}
-use Rattle.common.specs.Lists.{tab, within, Each}
+use Rattle.common.specs.Lists.{within, Each}
 use Rattle.common.proofs.Laws.Booleans.{and-l, and-r}
 use Rattle.common.proofs.Laws.Lists.{length-mapi, getD-mapi, tab-cong}
 use Rattle.common.proofs.Laws.Each.{each-append}
@@ -27,15 +27,17 @@ use Rattle.state.proofs.Laws.Passed.{pass-time-granted}
 use Rattle.state.proofs.Laws.Soundness.{sound-of}
 use Rattle.command.specs.Command.{address, writable, byKind, inAai, commandOf}
 use Rattle.registers.specs.Registers.{stateAfter}
-use Rattle.output.specs.Output.{memory, shownAt}
+use Rattle.output.specs.Output.{byteOf, drivenOf, memory, shownAt}
 use Rattle.effect.specs.Effect.{pageEffect, touches, struck, changed}
 use Rattle.frame.specs.Device.{Device, device, withState}
-use Rattle.frame.specs.Ran.{effectAt, stateAt, ranDevice, shown}
+use Rattle.frame.specs.Line.{Line, onLine, showing, Long}
+use Rattle.frame.specs.Ran.{effectAt, stateAt, ranDevice, shownLine}
 use Rattle.frame.specs.Call.{Accepted}
 use Rattle.frame.proofs.Laws.Call.{frame-accepted}
+use Rattle.frame.proofs.Laws.Line.{line-same}
 use Rattle.frame.proofs.Laws.Ran.{ran-is, shown-is}
 use Rattle.samples.specs.Session.{Step, send, pass, byteIs, protects, plans, Runs, Session, Holds}
-use Rattle.samples.specs.Table.{frameSessions, planSession, sessions}
+use Rattle.samples.specs.Table.{frameSessions, drivenSessions, planSession, sessions}
 use Rattle.samples.proofs.Laws.Plan.{plan-holds}
 use Rattle.output.proofs.Laws.Memory.{shown-by-memory}
 
@@ -66,15 +68,20 @@ bool-same-is false false e = refl
 abbrev after : State → List ℕ → (ℕ → ℕ) → ℕ → ℕ
 after s f m k = changed (effectAt s true f) f k (m k)
 
--- the frame's call accepts it, on a chip of this size and with an output of its length
+-- the frame's call accepts it, on a chip of this size and with a line of its length
 accepts : ℕ → State → List ℕ → Bool
 accepts size s f = isSound s && (eqb size (dataOf s .size) && (ltb 0 (length f) && leb (length f) longestFrame))
+
+-- what the frame shows over a memory function
+abbrev line : State → List ℕ → (ℕ → ℕ) → Line
+line s f m = showing (length f) (shownAt s (commandOf s true f) m)
 
 -- the steps, run over a memory function
 test : ℕ → State → (ℕ → ℕ) → List Step → Bool
 test size s m [] = true
-test size s m (send f output ∷ steps) =
-    accepts size s f && (same (tab (length f) (shownAt s (commandOf s true f) m)) output && test size (stateAt s true f) (after s f m) steps)
+test size s m (send f output driven ∷ steps) =
+    accepts size s f
+    && ((same (line s f m .output) output && same (line s f m .driven) driven) && test size (stateAt s true f) (after s f m) steps)
 test size s m (pass n ∷ steps) = isSound s && test size (timePassed s n) m steps
 test size s m (byteIs address byte ∷ steps) = ltb address size && (eqb (m address) byte && test size s m steps)
 test size s m (plans start wanted room script frames microseconds ∷ steps) = false
@@ -88,9 +95,9 @@ module _ (size : ℕ) (s : State) (f : List ℕ) (m : ℕ → ℕ) (array : List
   abbrev d : Device
   d = device s array
 
-  took : Agree size array m → (buffer : List ℕ) → length buffer ≡ length f → Accepted true f d buffer
+  took : Agree size array m → (lent : Line) → Long (length f) lent → Accepted true f d lent
   unfolding Agree accepts
-  took a buffer long =
+  took a lent long =
       let r = and-r (isSound s) _ q in
       let t = and-r (eqb size (dataOf s .size)) _ r in
       record {
@@ -101,12 +108,15 @@ module _ (size : ℕ) (s : State) (f : List ℕ) (m : ℕ → ℕ) (array : List
         same = long;
       }
 
-  shows : Agree size array m → shown true f d ≡ tab (length f) (shownAt s (commandOf s true f) m)
+  shows : Agree size array m → shownLine true f d ≡ line s f m
   unfolding Agree
   shows a =
+      let c = commandOf s true f in
+      let sized = took a (onLine f f) record { output-long = refl; driven-long = refl } .sized in
+      let at : (i : ℕ) → shownAt s c (memory array) i ≡ shownAt s c m i = shown-by-memory s c (memory array) m (λ k h. a .1 k (omega (arith, a .0, sized))) in
       shown-is true f d
-      ∙ tab-cong (length f) (shownAt s (commandOf s true f) (memory array)) (shownAt s (commandOf s true f) m)
-      (shown-by-memory s (commandOf s true f) (memory array) m (λ k h. a .1 k (omega (arith, a .0, took a f refl .sized))))
+      ∙ line-same (tab-cong (length f) (λ i. byteOf (shownAt s c (memory array) i)) (λ i. byteOf (shownAt s c m i)) (λ i. ap byteOf (at i)))
+      (tab-cong (length f) (λ i. drivenOf (shownAt s c (memory array) i)) (λ i. drivenOf (shownAt s c m i)) (λ i. ap drivenOf (at i)))
 
   leaves : Agree size array m → Agree size (ranDevice true f d .array) (after s f m)
   unfolding Agree
@@ -124,14 +134,16 @@ byte-there size array m address byte a h b = a .1 address h ∙ b
 runs : (size : ℕ) (steps : List Step) (d : Device) (m : ℕ → ℕ) → test size (d .state) m steps ≡ true → Agree size (d .array) m → Runs d steps
 unfolding test
 runs size [] d m e a = tt
-runs size (send f output ∷ steps) d m e a =
+runs size (send f output driven ∷ steps) d m e a =
     let s = d .state in
     let q = and-l (accepts size s f) _ e in
     let r = and-r (accepts size s f) _ e in
-    let t = same (tab (length f) (shownAt s (commandOf s true f) m)) output in
-    let out : output ≡ shown true f d = sym (shows size s f m (d .array) q a ∙ same-is _ output (and-l t _ r)) in
+    let o = same (line s f m .output) output in
+    let t = o && same (line s f m .driven) driven in
+    let told : line s f m ≡ onLine output driven = line-same (same-is _ output (and-l o _ (and-l t _ r))) (same-is _ driven (and-r o _ (and-l t _ r))) in
+    let out : onLine output driven ≡ shownLine true f d = sym (shows size s f m (d .array) q a ∙ told) in
     let next : test size (ranDevice true f d .state) (after s f m) steps ≡ true = rw (ran-is true f d) (and-r t _ r) in (
-      λ buffer long. frame-accepted true f d buffer (took size s f m (d .array) q a buffer long) record { device-is = refl; output-is = out },
+      λ lent long. frame-accepted true f d lent (took size s f m (d .array) q a lent long) record { device-is = refl; line-is = out },
       runs size steps (ranDevice true f d) (after s f m) next (leaves size s f m (d .array) q a),
     )
 runs size (pass n ∷ steps) d m e a =
@@ -157,9 +169,10 @@ all-hold (x ∷ xs) e =
     let t = test (dataOf (x .state) .size) (x .state) (λ _. x .fill) (x .steps) in
     (λ array n h. runs (dataOf (x .state) .size) (x .steps) (device (x .state) array) (λ _. x .fill) (and-l t (passes xs) e) (n, λ k b. h k (omega (arith, n))), all-hold xs (and-r t (passes xs) e))
 
-computed : passes frameSessions ≡ true
+computed : passes (frameSessions ++ drivenSessions) ≡ true
 unfolding test accepts same bool-same isSound chipOf isKnown statusOf firstProtected newState newChip cycleEnded timePassed kindOf address writable byKind inAai commandOf stateAfter shownAt pageEffect touches struck changed within
 computed = refl
 
 pub samples-hold : Each Holds sessions
-samples-hold = each-append Holds frameSessions (planSession ∷ []) (all-hold frameSessions computed) (plan-holds, tt)
+samples-hold =
+    each-append Holds (frameSessions ++ drivenSessions) (planSession ∷ []) (all-hold (frameSessions ++ drivenSessions) computed) (plan-holds, tt)

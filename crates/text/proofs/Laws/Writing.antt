@@ -9,24 +9,54 @@ use lib.ListN.{length, getD, drop, drop-of-length-le}
 use lib.Seq.{drop-cons}
 use Rattle.common.specs.Buffer.{Put}
 use Rattle.common.proofs.Laws.Buffer.{Left, left-start, left-room, left-fits, left-turn, left-last, left-none}
-use Rattle.text.specs.Text.{digit, decimalEnd, decimal, lineFeed}
-use Rattle.text.proofs.Laws.Decimal.{decimal-one, decimal-turn}
+use Rattle.text.specs.Text.{digit, pair, hex, shownPair, shownHex, decimalEnd, decimal, spaced, decimals, lineFeed}
+use Rattle.text.proofs.Laws.Text.{hex-none, hex-first}
+use Rattle.text.proofs.Laws.Shown.{shown-none, shown-first}
+use Rattle.text.proofs.Laws.Decimal.{decimal-one, decimal-turn, decimals-none, decimals-first}
 
--- items laid one behind the other, each by its piece of the text: at the turn of the item i
-module _ (piece : ℕ → List ℕ) (all : List ℕ → List ℕ) (none : all [] ≡ []) (first : (x : ℕ) (xs : List ℕ) → all (x ∷ xs) ≡ piece x ++ all xs)
-    (items : List ℕ) {next i at : ℕ} {text text₀ : List ℕ} (l : Left next (all (drop i items)) text at (all items) text₀) where
-  piece-left : i < length items → Left next (piece (getD items i 0) ++ all (drop (i + 1) items)) text at (all items) text₀
-  piece-left h = rw (add-one i) (rw (drop-cons items i 0 h, first (getD items i 0) (drop (suc i) items)) at l)
+-- a text of n pieces, and what is left of it from each of them on
+pub record Pieces (n : ℕ) (piece rest : ℕ → List ℕ) : Type 0 where
+  turn : (i : ℕ) → i < n → rest i ≡ piece i ++ rest (i + 1)
+  done : (i : ℕ) → n ≤ i → rest i ≡ []
 
-  pub piece-room : i < length items → next + length (piece (getD items i 0)) ≤ length text
-  piece-room h = left-room (piece (getD items i 0)) (all (drop (i + 1) items)) (piece-left h)
+-- laid one behind the other: at the turn of the piece i
+module _ {n : ℕ} {piece rest : ℕ → List ℕ} (p : Pieces n piece rest)
+    {next i at : ℕ} {text all text₀ : List ℕ} (l : Left next (rest i) text at all text₀) where
+  piece-left : i < n → Left next (piece i ++ rest (i + 1)) text at all text₀
+  piece-left h = rw (p .turn i h) at l
 
-  pub piece-turn : i < length items → {after : List ℕ} {further : ℕ} → Put next (piece (getD items i 0)) text after further
-      → Left further (all (drop (i + 1) items)) after at (all items) text₀
-  piece-turn h p = left-turn (piece (getD items i 0)) (all (drop (i + 1) items)) (piece-left h) p
+  pub piece-room : i < n → next + length (piece i) ≤ length text
+  piece-room h = left-room (piece i) (rest (i + 1)) (piece-left h)
 
-  pub piece-last : length items ≤ i → Put at (all items) text₀ text next
-  piece-last h = left-none (rw (drop-of-length-le items h, none) at l)
+  pub piece-turn : i < n → {after : List ℕ} {further : ℕ} → Put next (piece i) text after further → Left further (rest (i + 1)) after at all text₀
+  piece-turn h q = left-turn (piece i) (rest (i + 1)) (piece-left h) q
+
+  pub piece-last : n ≤ i → Put at all text₀ text next
+  piece-last h = left-none (rw (p .done i h) at l)
+
+-- a piece for each item
+items-pieces : (piece : ℕ → List ℕ) (all : List ℕ → List ℕ) → all [] ≡ [] → ((x : ℕ) (xs : List ℕ) → all (x ∷ xs) ≡ piece x ++ all xs)
+    → (items : List ℕ) → Pieces (length items) (λ i. piece (getD items i 0)) (λ i. all (drop i items))
+items-pieces piece all none first items = record {
+  turn = λ i h. rw (add-one i, drop-cons items i 0 h) (first (getD items i 0) (drop (suc i) items));
+  done = λ i h. rw (drop-of-length-le items h) none;
+}
+
+pub hex-pieces : (bytes : List ℕ) → Pieces (length bytes) (λ i. pair (getD bytes i 0)) (λ i. hex (drop i bytes))
+hex-pieces = items-pieces pair hex hex-none hex-first
+
+pub decimals-pieces : (numbers : List ℕ) → Pieces (length numbers) (λ i. spaced (getD numbers i 0)) (λ i. decimals (drop i numbers))
+decimals-pieces = items-pieces spaced decimals decimals-none decimals-first
+
+-- a piece for each byte and whether it was driven
+pub shown-pieces : (bytes driven : List ℕ) → length driven ≡ length bytes
+    → Pieces (length bytes) (λ i. shownPair (getD bytes i 0) (getD driven i 0)) (λ i. shownHex (drop i bytes) (drop i driven))
+shown-pieces bytes driven same = record {
+  turn = λ i h.
+      rw (add-one i, drop-cons bytes i 0 h, drop-cons driven i 0 (omega (arith, same, h)))
+      (shown-first (getD bytes i 0) (getD driven i 0) (drop (suc i) bytes) (drop (suc i) driven));
+  done = λ i h. rw (drop-of-length-le bytes h) (shown-none (drop i driven));
+}
 
 -- two pieces, laid one behind the other
 pub first-room : (xs ys : List ℕ) (at : ℕ) (text : List ℕ) → at + length (xs ++ ys) ≤ length text → at + length xs ≤ length text

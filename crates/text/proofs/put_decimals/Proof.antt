@@ -5,9 +5,8 @@ use native.Mathlib.Omega.{arith}
 use lib.ListN.{length, drop}
 use Rattle.common.proofs.Laws.Buffer.{Left, left-start}
 use Rattle.common.proofs.Laws.Each.{each-at}
-use Rattle.text.specs.Text.{decimalEnd, spaced, decimals}
-use Rattle.text.proofs.Laws.Decimal.{decimals-none, decimals-first}
-use Rattle.text.proofs.Laws.Writing.{piece-room, piece-turn, piece-last}
+use Rattle.text.specs.Text.{decimalEnd, decimals}
+use Rattle.text.proofs.Laws.Writing.{piece-room, piece-turn, piece-last, decimals-pieces}
 use borrow.Author.Needs.{needs}
 use Rattle.text.proofs.put_decimals.Statement.{statement}
 use Rattle.text.proofs.put_decimals.Tie as tie
@@ -31,7 +30,7 @@ put-spaced-requires : tie.Need-put-spaced-requires Inv-loop μ-loop
 put-spaced-requires c κs =
     let s = c .before .before .before .before .before .before in (
       each-at (λ n. n < decimalEnd) (s .args .numbers .now) (c .before .before .before .loop .i) 0 (s .pre .0) (c .before .before .loop-test .taken),
-      piece-room spaced decimals decimals-none decimals-first (s .args .numbers .now) (c .before .before .before .loop .inv .1) (c .before .before .loop-test .taken),
+      piece-room (decimals-pieces (s .args .numbers .now)) (c .before .before .before .loop .inv .1) (c .before .before .loop-test .taken),
     )
 
 add-i : tie.Need-add-i Inv-loop μ-loop
@@ -43,13 +42,13 @@ loop-less c = omega arith
 loop-again : tie.Need-loop-again Inv-loop μ-loop
 loop-again c =
     let a = c .before .before .before .before .before .before .before .before .before .args in
-    (omega arith, piece-turn spaced decimals decimals-none decimals-first (a .numbers .now) (c .before .before .before .before .before .before .loop .inv .1) (c .before .before .before .before .before .loop-test .taken) (c .before .before .put-spaced .ensures))
+    (omega arith, piece-turn (decimals-pieces (a .numbers .now)) (c .before .before .before .before .before .before .loop .inv .1) (c .before .before .before .before .before .loop-test .taken) (c .before .before .put-spaced .ensures))
 
 same-length : tie.Need-same-length Inv-loop μ-loop
 same-length c = c .before .loop .inv .1 .long
 
 returns : tie.Need-returns Inv-loop μ-loop
-returns c = piece-last spaced decimals decimals-none decimals-first (c .before .before .before .before .args .numbers .now) (c .before .loop .inv .1) (c .loop-test .left)
+returns c = piece-last (decimals-pieces (c .before .before .before .before .args .numbers .now)) (c .before .loop .inv .1) (c .loop-test .left)
 
 pub put-decimals-spec : {M : Type 1} → statement M
 put-decimals-spec =

@@ -4,9 +4,8 @@ use Prim.Native.Nat.{_-_, _≤_}
 use native.Mathlib.Omega.{arith}
 use lib.ListN.{length, drop}
 use Rattle.common.proofs.Laws.Buffer.{Left, left-start}
-use Rattle.text.specs.Text.{pair, hex}
-use Rattle.text.proofs.Laws.Text.{hex-none, hex-first}
-use Rattle.text.proofs.Laws.Writing.{piece-room, piece-turn, piece-last}
+use Rattle.text.specs.Text.{hex}
+use Rattle.text.proofs.Laws.Writing.{piece-room, piece-turn, piece-last, hex-pieces}
 use Rattle.text.proofs.put_hex.Statement.{statement}
 use Rattle.text.proofs.put_hex.Tie as tie
 
@@ -23,7 +22,7 @@ shared-slice-read-put-pair : tie.Need-shared-slice-read-put-pair Inv-loop μ-loo
 shared-slice-read-put-pair c = omega arith
 
 put-pair-requires : tie.Need-put-pair-requires Inv-loop μ-loop
-put-pair-requires c κs = piece-room pair hex hex-none hex-first (c .before .before .before .before .before .before .args .bytes .now) (c .before .before .before .loop .inv .1) (c .before .before .loop-test .taken)
+put-pair-requires c κs = piece-room (hex-pieces (c .before .before .before .before .before .before .args .bytes .now)) (c .before .before .before .loop .inv .1) (c .before .before .loop-test .taken)
 
 add-i : tie.Need-add-i Inv-loop μ-loop
 add-i c = omega arith
@@ -33,13 +32,13 @@ loop-less c = omega arith
 
 loop-again : tie.Need-loop-again Inv-loop μ-loop
 loop-again c =
-    let a = c .before .before .before .before .before .before .before .before .before .args in (omega arith, piece-turn pair hex hex-none hex-first (a .bytes .now) (c .before .before .before .before .before .before .loop .inv .1) (c .before .before .before .before .before .loop-test .taken) (c .before .before .put-pair .ensures))
+    let a = c .before .before .before .before .before .before .before .before .before .args in (omega arith, piece-turn (hex-pieces (a .bytes .now)) (c .before .before .before .before .before .before .loop .inv .1) (c .before .before .before .before .before .loop-test .taken) (c .before .before .put-pair .ensures))
 
 same-length : tie.Need-same-length Inv-loop μ-loop
 same-length c = c .before .loop .inv .1 .long
 
 returns : tie.Need-returns Inv-loop μ-loop
-returns c = piece-last pair hex hex-none hex-first (c .before .before .before .before .args .bytes .now) (c .before .loop .inv .1) (c .loop-test .left)
+returns c = piece-last (hex-pieces (c .before .before .before .before .args .bytes .now)) (c .before .loop .inv .1) (c .loop-test .left)
 
 pub put-hex-spec : {M : Type 1} → statement M
 put-hex-spec =

@@ -14,7 +14,7 @@ use crate::{scripts, size, Rng};
 type IsRead = fn(State, &[u8], usize, u32) -> Told;
 type Count = fn(State, &[u8], usize) -> Told;
 type BookMark = fn(State, bool, &[u8], usize, &[u32], &mut [u8]) -> Planned;
-type Run = fn(State, bool, &mut [u8], &[u8], &mut [u8]) -> Ran;
+type Run = fn(State, bool, &mut [u8], &[u8], &mut [u8], &mut [u8]) -> Ran;
 
 /// Marks random books of a chip. There is one array for all of them: each writes only its own book
 /// anew.
@@ -97,7 +97,9 @@ impl Books {
         let planned = (self.mark)(*state, *wp_high, &self.array, *sector, scenes, &mut buffer);
         buffer.get(..planned.length as usize).is_some_and(|script| {
             let mut output = vec![0; scripts::frame_bytes(script)];
-            let ran = (self.run)(*state, *wp_high, &mut self.array, script, &mut output);
+            let mut driven = output.clone();
+            let array = &mut self.array;
+            let ran = (self.run)(*state, *wp_high, array, script, &mut output, &mut driven);
             (planned.number, ran.number) == (0, 0)
         })
     }

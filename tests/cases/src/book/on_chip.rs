@@ -127,13 +127,11 @@ impl<C: Calls> BookOnChip<C> {
         })
     }
 
-    /// Whether both are accepted, and the chip is left as it was.
+    /// Whether both are accepted, nothing is driven, and the chip is left as it was.
     fn plan_and_run(&mut self, scenes: &[u32]) -> bool {
         let state = self.chip.state;
-        self.plan(scenes, ROOMY).is_some_and(|script| {
-            let mut output = vec![0; C::survey(&script).output];
-            let ran = C::run(state, self.wp_high, &mut self.chip.array, &script, &mut output);
-            (ran.number, ran.state) == (0, state)
-        })
+        self.plan(scenes, ROOMY)
+            .and_then(|script| self.chip.run_silent(self.wp_high, &script))
+            .is_some_and(|ran| (ran.number, ran.state) == (0, state))
     }
 }

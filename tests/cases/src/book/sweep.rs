@@ -1,9 +1,10 @@
 //! Cases about books gone through one by one: scenes and sectors at their edges, on a chip at rest
 //! and on one that is busy, with a wrong array and in a state that isn't sound.
 
-use model::{State, SECTOR};
+use model::SECTOR;
 
 use crate::case::{Case, On};
+use crate::sweep::chips;
 use crate::{size, CHIPS};
 
 const SCENES: [u32; 10] = [0, 7, 8, 4_088, 4_095, 4_096, 4_103, 65_535, 65_541, u32::MAX];
@@ -36,15 +37,6 @@ impl BookSweep {
     pub fn case(&self, number: usize) -> Case {
         self.0[number].clone()
     }
-}
-
-fn chips(chip: u8) -> [On; 4] {
-    let rest = State { chip, ..State::default() };
-    let busy = State { wel: true, left: 5, ..rest };
-    let unsound = State { bp: 8, ..rest };
-    let [rest, busy, unsound] = [rest, busy, unsound].map(|state| On::new(state, true));
-    let short = On { array: size(chip) - 1, ..rest.clone() };
-    [rest, busy, unsound, short]
 }
 
 /// The first, the second and the last, and what isn't a sector's start.

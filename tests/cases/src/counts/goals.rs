@@ -6,7 +6,7 @@ use model::{kind, Reason, SECTOR};
 
 use super::salvage_sorts::{Miss, RoomSort, SectorSort};
 use super::sorts::{AskedSort, FrameSort, ListSort, PlanSort, ScriptSort, TimeSort, WrongBookSort};
-use super::{names_goals, Met};
+use super::{line_goals, names_goals, Met};
 use crate::book::Promise;
 use crate::case::BAD_RECORD;
 use crate::salvage::{self, WRONG_LENGTHS};
@@ -61,6 +61,7 @@ pub fn goals() -> Vec<Goals> {
         goal("sector slices, by their lengths", 100, slices()),
         goal("promises of A9 tested", 500, salvage_promises()),
     ];
+    goals.extend(line_goals::goals());
     goals.extend(names_goals::goals());
     goals
 }

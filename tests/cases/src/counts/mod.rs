@@ -1,6 +1,9 @@
 //! What the cases met, and how often each of it has to be met.
 
 mod goals;
+mod line_goals;
+mod line_sorts;
+mod lines;
 mod names;
 mod names_goals;
 mod names_sorts;
@@ -16,10 +19,12 @@ use crate::case::{Case, On, Outcome, BAD_RECORD};
 use crate::generator::Item;
 use crate::names::Promise as NamesPromise;
 use crate::salvage::{self, Call, Lent, Parts};
+use crate::side::Written;
 use crate::unread::Clause;
 use crate::worst::{Found, Limit};
 use crate::CHIPS;
 pub use goals::{goals, Goals};
+use line_sorts::LineSort;
 use names_sorts::{
     BackSort, BadListSort, BadNameSort, MoveSort, PresentSort, QuestionSort, TargetSort, TwiceSort,
 };
@@ -43,6 +48,17 @@ pub enum Met {
     Level { call: &'static str, chip: u8, bp: u8, wp_high: bool },
     /// A taken frame was of this sort.
     Frame { call: &'static str, sort: FrameSort },
+    /// A byte at a border of what the chip drives was driven, or was silent.
+    Border { call: &'static str, chip: u8, opcode: u8, at: usize, driven: bool },
+    /// The chip drove an FF.
+    ErasedDriven { call: &'static str, chip: u8, opcode: u8 },
+    /// A frame that the chip would have answered was ignored for this reason, and nothing was driven.
+    AllSilent { call: &'static str, chip: u8, opcode: u8, reason: Reason },
+    /// The lengths of the two slices were wrong like this, and nothing before them.
+    WrongLine { call: &'static str, chip: u8, sort: LineSort },
+    /// The second slice alone was wrong, and what came was refused before something else: 4 is one of
+    /// the two.
+    DrivenAlone { call: &'static str, number: u32, other: u32 },
     /// A plan was of this sort.
     Plan { chip: u8, wp_high: bool, sort: PlanSort },
     /// The plan of a mark was of this sort.
@@ -117,10 +133,12 @@ impl Counts {
         *self.0.entry(met).or_default() += 1;
     }
 
-    pub fn note(&mut self, item: &Item, outcome: &Outcome, buffer: &[u8]) {
+    pub fn note(&mut self, item: &Item, outcome: &Outcome, written: Written) {
         if outcome.number() == 0 {
-            self.note_accepted(&item.case, outcome, buffer);
+            self.note_accepted(&item.case, outcome, written.buffer);
+            self.note_shown(&item.case, written);
         } else {
+            self.note_line(item, outcome.number());
             self.note_refused(item, outcome);
         }
     }

@@ -4,8 +4,8 @@ use model::{Answer, Calls, Ran, State};
 
 use crate::{scripts, size, Rng};
 
-type Run = fn(State, bool, &mut [u8], &[u8], &mut [u8]) -> Ran;
-type CutFrame = fn(&mut State, bool, &mut [u8], &[u8], &mut [u8], &[u8]) -> u32;
+type Run = fn(State, bool, &mut [u8], &[u8], &mut [u8], &mut [u8]) -> Ran;
+type CutFrame = fn(&mut State, bool, &mut [u8], &[u8], &mut [u8], &mut [u8], &[u8]) -> u32;
 type PowerUp = fn(State) -> Answer;
 
 /// Where a plan is cut.
@@ -91,7 +91,9 @@ impl Powered {
         };
         let part = &script[..until];
         let mut output = vec![0; scripts::frame_bytes(part)];
-        let ran = (self.run)(self.state, self.wp_high, &mut self.array, part, &mut output);
+        let mut driven = output.clone();
+        let Self { state, wp_high, array, .. } = self;
+        let ran = (self.run)(*state, *wp_high, array, part, &mut output, &mut driven);
         accepted(ran.number)?;
         self.state = ran.state;
         if let Some(([0x5A, 0x46, _, _, frame @ ..], mask)) = inside {
@@ -113,12 +115,14 @@ impl Powered {
         };
         let mask = mask.bytes(rng, programmed);
         let mut output = vec![0; frame.len()];
+        let mut driven = output.clone();
         let number = (self.cut_frame)(
             &mut self.state,
             self.wp_high,
             &mut self.array,
             frame,
             &mut output,
+            &mut driven,
             &mask,
         );
         accepted(number)

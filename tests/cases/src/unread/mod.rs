@@ -6,11 +6,12 @@ mod array;
 mod clause;
 mod premises;
 mod script;
+mod shown;
 mod tested;
 
 use std::fmt;
 
-use model::{Calls, Ran, State, LONGEST_SCRIPT};
+use model::{Calls, Ran, State};
 
 use crate::case::footprint;
 use crate::{scripts, size, CHIPS, F25L008A};
@@ -18,10 +19,11 @@ use array::{Array, ByteChange, Change, Changed};
 pub use clause::{Breach, Clause, Extent};
 use premises::{Premises, Step};
 pub use script::Script;
+use shown::Shown;
 use tested::tested;
 
 /// Somebody's call that runs a script.
-type Run = fn(State, bool, &mut [u8], &[u8], &mut [u8]) -> Ran;
+type Run = fn(State, bool, &mut [u8], &[u8], &mut [u8], &mut [u8]) -> Ran;
 
 /// Runs scripts, and tries the clauses on them.
 pub struct Unread {
@@ -31,7 +33,9 @@ pub struct Unread {
     /// Who gives the arrays, and the array of each chip.
     arrays: Run,
     chips: [Array; 2],
-    output: Vec<u8>,
+    /// What the frames show, run whole and in parts.
+    whole: Shown,
+    parts: Shown,
 }
 
 /// What a script showed.
@@ -39,8 +43,8 @@ pub struct Found {
     /// The clauses that the whole script put to the test.
     pub tested: Vec<Clause>,
     pub breaches: Vec<Breach>,
-    /// Whether both parties have the same state before each record, and the script ends the same
-    /// run whole and record by record.
+    /// Whether both parties have the same state before each record, and the script shows and ends the
+    /// same run whole and record by record.
     pub agrees: bool,
 }
 
@@ -55,13 +59,16 @@ impl Unread {
             elsewhere: vec![0xFF; size(F25L008A)],
             arrays: A::run,
             chips: CHIPS.map(|chip| Array::new(size(chip))),
-            output: vec![0; LONGEST_SCRIPT],
+            whole: Shown::new(),
+            parts: Shown::new(),
         }
     }
 
     /// Runs a script, and tries the clauses on it and on its parts.
     pub fn run(&mut self, script: &Script) -> Found {
         let steps = self.steps(script);
+        self.whole.clear(script.shown, 0xA5);
+        self.parts.clear(script.shown, 0x5A);
         let premises = steps.iter().fold(Premises::at(&script.state), Premises::and);
         let (state, changed) = self.run_whole(script);
         let tested = tested(&premises, &steps, script.wp_high, !changed.is_empty());
@@ -73,6 +80,7 @@ impl Unread {
         }
         let in_parts = self.run_in_parts(script, &steps, &mut found);
         found.agrees &= in_parts == (state, changed);
+        found.agrees &= self.whole.lent(0, script.shown) == self.parts.lent(0, script.shown);
         found
     }
 
@@ -82,8 +90,8 @@ impl Unread {
         let mut state = script.state;
         let step = |record| {
             let step = Step { state, record };
-            let output = &mut self.output[..step.frame().len()];
-            state = (self.states)(state, script.wp_high, array, record, output).state;
+            let [output, driven] = self.parts.lent(0, step.frame().len());
+            state = (self.states)(state, script.wp_high, array, record, output, driven).state;
             step
         };
         scripts::records(&script.bytes).into_iter().map(step).collect()
@@ -91,8 +99,9 @@ impl Unread {
 
     fn run_whole(&mut self, script: &Script) -> End {
         let array = &mut self.chips[usize::from(script.state.chip != F25L008A)];
-        let output = &mut self.output[..script.output];
-        let ran = (self.arrays)(script.state, script.wp_high, array.lent(), &script.bytes, output);
+        let [output, driven] = self.whole.lent(0, script.shown);
+        let Script { state, wp_high, bytes, .. } = script;
+        let ran = (self.arrays)(*state, *wp_high, array.lent(), bytes, output, driven);
         (ran.state, array.put_back())
     }
 
@@ -102,12 +111,15 @@ impl Unread {
         let array = &mut self.chips[usize::from(script.state.chip != F25L008A)];
         let mut state = script.state;
         let mut premises = Premises::at(&state);
+        let mut shown = 0;
         for step in steps {
             found.agrees &= state == step.state;
             let [window, _] = footprint(&step.state, step.frame());
             let before = array.lent()[window.clone()].to_vec();
-            let output = &mut self.output[..step.frame().len()];
-            state = (self.arrays)(state, script.wp_high, array.lent(), step.record, output).state;
+            let [output, driven] = self.parts.lent(shown, step.frame().len());
+            let (wp_high, lent) = (script.wp_high, array.lent());
+            state = (self.arrays)(state, wp_high, lent, step.record, output, driven).state;
+            shown += step.frame().len();
             premises = premises.of_parts(step);
             if !window.is_empty() {
                 let after = &array.lent()[window.clone()];
@@ -133,7 +145,7 @@ impl fmt::Display for Found {
             writeln!(to, "{clause:?}, {extent:?}: at {address:#X} {before:#04X} to {after:#04X}")?;
         }
         if !self.agrees {
-            writeln!(to, "the states differ, or the ends of the script whole and in parts")?;
+            writeln!(to, "the states differ, or what the script shows or how it ends, in parts")?;
         }
         Ok(())
     }

@@ -5,8 +5,8 @@ use std::fmt;
 use model::State;
 
 use super::array;
-use crate::case::{Case, Outcome};
-use crate::literal::{bytes_text, state_text};
+use crate::case::{Case, Line, Outcome};
+use crate::literal::{bytes_text, line_text, state_text};
 use crate::size;
 
 /// An accepted script, and what it was given with.
@@ -14,19 +14,19 @@ pub struct Script {
     pub state: State,
     pub wp_high: bool,
     pub bytes: Vec<u8>,
-    /// How long its output is.
-    pub output: usize,
+    /// How many bytes its frames show.
+    pub shown: usize,
 }
 
 impl Script {
     /// That of a case, if it is a run and was accepted.
     pub fn of(case: &Case, outcome: &Outcome) -> Option<Self> {
         match case {
-            Case::Run { on, script, output } if outcome.number() == 0 => Some(Self {
+            Case::Run { on, script, line } if outcome.number() == 0 => Some(Self {
                 state: on.state,
                 wp_high: on.wp_high,
                 bytes: script.clone(),
-                output: *output,
+                shown: line.output,
             }),
             _ => None,
         }
@@ -40,7 +40,7 @@ impl fmt::Display for Script {
         writeln!(to, "let wp_high = {};", self.wp_high)?;
         writeln!(to, "{}", array::text(size(self.state.chip)))?;
         writeln!(to, "let script = {};", bytes_text(&self.bytes))?;
-        writeln!(to, "let mut output = vec![0x5A_u8; {}];", self.output)?;
-        write!(to, "Library::run(state, wp_high, &mut array, &script, &mut output);")
+        writeln!(to, "{}", line_text(&Line::of(self.shown)))?;
+        write!(to, "Library::run(state, wp_high, &mut array, &script, &mut output, &mut driven);")
     }
 }

@@ -95,8 +95,8 @@ impl Reaching {
         C::plan(chip.state, wp_high, &chip.array, START, &self.wanted(), buffer)
     }
 
-    /// Whether the script has as many frames and waits as long as the plan says, changes nothing
-    /// but the region, and leaves the chip as it was.
+    /// Whether the script has as many frames and waits as long as the plan says, drives nothing,
+    /// changes nothing but the region, and leaves the chip as it was.
     fn does_what_is_wanted<C: Calls>(
         &self,
         chip: &mut Chip<C>,
@@ -106,10 +106,10 @@ impl Reaching {
         let state = chip.state;
         let mut array = chip.array.clone();
         array[START..][..LONGEST_REGION].copy_from_slice(&self.wanted());
-        let mut output = vec![0; C::survey(script).output];
-        let ran = C::run(state, wp_high, &mut chip.array, script, &mut output);
+        let ran = chip.run_silent(wp_high, script);
         let Amounts { frames, microseconds, .. } = self.amounts;
         let microseconds = u64::from(microseconds);
-        ran == Ran { number: 0, state, frames, microseconds, offset: 0 } && chip.array == array
+        ran == Some(Ran { number: 0, state, frames, microseconds, offset: 0 })
+            && chip.array == array
     }
 }

@@ -39,14 +39,14 @@ unfolding frameNumber
 returns-4 c =
     no _ (rw (c .before .before .before .before .before .before .is-sound .ensures) at (c .before .before .before .before .before .if1 .left))
     (no _ (ap not (rw (c .before .before .before .before .chip-of .ensures) at (eq-eqb _ _ (c .before .before .if2 .left))))
-    (no _ (c .before .if3 .left) (yes _ (ap not (ne-eqb _ _ (c .if4 .taken))) refl)))
+    (no _ (c .before .if3 .left) (yes _ (c .if4 .taken) refl)))
 
 returns-5 : tie.Need-returns-5
 unfolding frameNumber
 returns-5 c =
     no _ (rw (c .before .before .before .before .before .before .is-sound .ensures) at (c .before .before .before .before .before .if1 .left))
     (no _ (ap not (rw (c .before .before .before .before .chip-of .ensures) at (eq-eqb _ _ (c .before .before .if2 .left))))
-    (no _ (c .before .if3 .left) (no _ (ap not (eq-eqb _ _ (c .if4 .left))) refl)))
+    (no _ (c .before .if3 .left) (no _ (c .if4 .left) refl)))
 
 pub frame-number-spec : {M : Type 1} → statement M
 frame-number-spec =

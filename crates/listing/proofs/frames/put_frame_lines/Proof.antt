@@ -10,20 +10,21 @@ use Rattle.script.proofs.reader.Found.{the-type}
 use Rattle.script.specs.declared.reader.Found.{Found}
 use Rattle.script.specs.declared.reader.Found.the-variants.{Frame, Wait, End, Refused}
 use Rattle.script.specs.Record.{wait}
+use Rattle.frame.specs.Line.{onLine}
 use Rattle.script.proofs.Laws.Answers.{good-not-refused, Stands, FrameTold, EndTold, Told, front-told}
-use Rattle.listing.proofs.Laws.Frames.{Shown, show-start, frame-inside, frame-room, show-frame, show-wait, show-end}
+use Rattle.listing.proofs.Laws.Frames.{Shown, show-start, frame-inside, frame-driven-inside, frame-room, show-frame, show-wait, show-end}
 use borrow.Author.Needs.{needs}
 use Rattle.listing.proofs.frames.put_frame_lines.Statement.{statement}
 use Rattle.listing.proofs.frames.put_frame_lines.Tie as tie
 
 abbrev Inv-loop : tie.InvT-loop
-Inv-loop script output text₀ at₀ shown₀ next-line₀ text at shown next-line = Shown script output text₀ at shown next-line text
+Inv-loop script output driven text₀ at₀ shown₀ next-line₀ text at shown next-line = Shown script (onLine output driven) text₀ at shown next-line text
 
 abbrev μ-loop : tie.MeasureT-loop
-μ-loop script output text₀ at₀ shown₀ next-line₀ text at shown next-line = length script - at
+μ-loop script output driven text₀ at₀ shown₀ next-line₀ text at shown next-line = length script - at
 
 abbrev Script : tie.At-loop Inv-loop μ-loop → List ℕ
-Script l = l .before .before .before .before .args .script .now
+Script l = l .before .before .before .before .before .args .script .now
 
 -- what the answers tell
 told : (c : tie.After-front-at Inv-loop μ-loop) → Told (Script (c .before)) (c .before .loop .at) (c .front-at .result)
@@ -46,7 +47,7 @@ ended c (End next) h t = t .1
 ended c (Refused number next) h t = absurd (good-not-refused (c .before .before .loop .inv .decoded) (t .1))
 
 loop-holds : tie.Need-loop-holds Inv-loop μ-loop
-loop-holds c = let s = c .before .before .before in show-start _ _ _ (s .pre .0) (s .pre .1 .0) (s .pre .1 .1)
+loop-holds c = let s = c .before .before .before .before in show-start _ _ _ (s .pre .0) (s .pre .1 .0) (s .pre .1 .1)
 
 front-at-requires : tie.Need-front-at-requires Inv-loop μ-loop
 front-at-requires c κs = search needs
@@ -57,23 +58,35 @@ enum-known-found c = search needs
 add-end : tie.Need-add-end Inv-loop μ-loop
 add-end c = let h = frame-inside (c .before .before .before .before .loop .inv) (framed c) in search needs
 
-sub-put-hex-line : tie.Need-sub-put-hex-line Inv-loop μ-loop
-sub-put-hex-line c = search needs
+sub-put-shown-line : tie.Need-sub-put-shown-line Inv-loop μ-loop
+sub-put-shown-line c = search needs
 
-part-put-hex-line-start : tie.Need-part-put-hex-line-start Inv-loop μ-loop
-part-put-hex-line-start c = search needs
+part-put-shown-line-start : tie.Need-part-put-shown-line-start Inv-loop μ-loop
+part-put-shown-line-start c = search needs
 
-part-put-hex-line-end : tie.Need-part-put-hex-line-end Inv-loop μ-loop
-part-put-hex-line-end c = frame-inside (c .before .before .before .before .loop .inv) (framed c)
+part-put-shown-line-end : tie.Need-part-put-shown-line-end Inv-loop μ-loop
+part-put-shown-line-end c = frame-inside (c .before .before .before .before .loop .inv) (framed c)
 
-put-hex-line-requires : tie.Need-put-hex-line-requires Inv-loop μ-loop
-put-hex-line-requires c κs = frame-room (c .before .before .before .before .before .before .loop .inv) (framed (c .before .before))
+sub-put-shown-line-2 : tie.Need-sub-put-shown-line-2 Inv-loop μ-loop
+sub-put-shown-line-2 c = search needs
+
+part-put-shown-line-start-2 : tie.Need-part-put-shown-line-start-2 Inv-loop μ-loop
+part-put-shown-line-start-2 c = search needs
+
+part-put-shown-line-end-2 : tie.Need-part-put-shown-line-end-2 Inv-loop μ-loop
+part-put-shown-line-end-2 c = frame-driven-inside (c .before .before .before .before .before .loop .inv) (framed (c .before))
+
+put-shown-line-requires : tie.Need-put-shown-line-requires Inv-loop μ-loop
+put-shown-line-requires c κs = frame-room (c .before .before .before .before .before .before .before .loop .inv) (framed (c .before .before .before))
 
 loop-less : tie.Need-loop-less Inv-loop μ-loop
-loop-less c = let s = framed (c .before .before .before .before .before) .stands in omega (arith, s .next-is, s .least, s .inside)
+loop-less c = let s = framed (c .before .before .before .before .before .before) .stands in omega (arith, s .next-is, s .least, s .inside)
 
 loop-again : tie.Need-loop-again Inv-loop μ-loop
-loop-again c = show-frame (c .before .before .before .before .before .before .before .before .before .loop .inv) (framed (c .before .before .before .before .before)) (c .before .before .put-hex-line .ensures)
+loop-again c =
+    let l = c .before .before .before .before .before .before .before .before .before .before in
+    let t = framed (c .before .before .before .before .before .before) in
+    show-frame (l .loop .inv) t (c .before .before .put-shown-line .ensures)
 
 enum-known-found-2 : tie.Need-enum-known-found-2 Inv-loop μ-loop
 enum-known-found-2 c = search needs
@@ -101,10 +114,13 @@ put-frame-lines-spec =
     front-at-requires
     enum-known-found
     add-end
-    sub-put-hex-line
-    part-put-hex-line-start
-    part-put-hex-line-end
-    put-hex-line-requires
+    sub-put-shown-line
+    part-put-shown-line-start
+    part-put-shown-line-end
+    sub-put-shown-line-2
+    part-put-shown-line-start-2
+    part-put-shown-line-end-2
+    put-shown-line-requires
     loop-less
     loop-again
     enum-known-found-2

@@ -3,7 +3,7 @@
 use std::fmt;
 
 use cases::unread::{Breach, Clause, Extent, Script, Unread};
-use cases::{explore, Item, Outcome};
+use cases::{explore, Item, Outcome, Written};
 use model::{Calls, Fault, Model};
 
 use crate::broken::Broken;
@@ -68,7 +68,7 @@ impl fmt::Display for Clauses {
 /// The first accepted scripts among so many cases; none if the right model is told from itself.
 pub fn scripts(seed: u64, cases: usize) -> Vec<Script> {
     let mut scripts = Vec::new();
-    let note = |item: &Item, outcome: &Outcome, _: &[u8]| {
+    let note = |item: &Item, outcome: &Outcome, _: Written| {
         if scripts.len() < SCRIPTS {
             scripts.extend(Script::of(&item.case, outcome));
         }

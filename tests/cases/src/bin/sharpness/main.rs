@@ -180,4 +180,32 @@ faults! {
     MarkedAtAddress0
     NothingNewNotPlanned
     RefusedMarkWrites
+    DrivenErasedSilent
+    HeaderDriven
+    DummyDriven
+    JedecTailDriven
+    SignatureDrivenFrom1
+    SilentCommandDriven
+    IgnoredDriven
+    DrivenByOpcode
+    SilentReadsZero
+    DrivenIsFf
+    CutFrameSilent
+    CutSlicesSwapped
+    DrivenFrameLate
+    OneLengthEnough
+    OutputLengthNotAsked
+    DrivenLengthNotAsked
+    LongerDrivenTaken
+    SilentLengthNotAsked
+    ScriptOneLengthEnough
+    ScriptOutputLengthNotAsked
+    ScriptDrivenLengthNotAsked
+    ScriptLongerDrivenTaken
+    DrivenCheckedBeforeFrame
+    DrivenCheckedAfterMask
+    DrivenCheckedBeforeRecords
+    RefusedFrameClearsDriven
+    RefusedCutClearsDriven
+    RefusedRunClearsDriven
 }

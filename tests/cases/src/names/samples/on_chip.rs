@@ -131,8 +131,8 @@ impl<C: Calls> OnChip<C> {
         self.script(called).is_some_and(|script| script.is_empty())
     }
 
-    /// Runs what a call planned: whether all of the array is then as it was, but for a sector that
-    /// holds these bytes and FF.
+    /// Runs what a call planned: whether nothing is driven, and all of the array is then as it was, but
+    /// for a sector that holds these bytes and FF.
     pub fn runs(&mut self, called: &Called, start: usize, bytes: &[u8]) -> bool {
         let Some(script) = self.script(called).filter(|script| !script.is_empty()) else {
             return false;
@@ -140,10 +140,9 @@ impl<C: Calls> OnChip<C> {
         let mut array = self.chip.array.clone();
         array[start..][..SECTOR].copy_from_slice(&padded(bytes));
         let state = self.chip.state;
-        let mut output = vec![0; C::survey(&script).output];
-        let ran = C::run(state, self.wp_high, &mut self.chip.array, &script, &mut output);
+        let ran = self.chip.run_silent(self.wp_high, &script);
         let rested = State { wel: false, armed: false, ..state };
-        (ran.number, ran.state) == (0, rested) && self.chip.array == array
+        ran.is_some_and(|ran| (ran.number, ran.state) == (0, rested)) && self.chip.array == array
     }
 
     /// Marks a name by two plans: whether it is read behind the second and not before, and the third
