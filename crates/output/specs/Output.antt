@@ -1,9 +1,8 @@
 -- What a chip shows at byte i of a frame (01, "Frames"; 02, A10): a byte that it drives, or nothing. Over a memory, which says what stands at each
 -- address.
-use mathlib.Core.Path.{_≡_}
 use mathlib.Core.Bool.{Bool, cond}
 use mathlib.Core.List.{List}
-use Prim.Native.Nat.{ℕ, _+_, _-_, _%_, _≤_, _<_}
+use Prim.Native.Nat.{ℕ, _+_, _-_, _%_}
 use lib.Dec.{ltb, eqb}
 use lib.ListN.{getD}
 use Rattle.state.specs.declared.State.{State}
@@ -75,11 +74,3 @@ shownAt s (ProgramByte a) m i = Silent
 shownAt s (ProgramPage a n) m i = Silent
 shownAt s (ProgramWord a j) m i = Silent
 shownAt s Sleep m i = Silent
-
--- it does not read the array
-abbrev pub NoRead : Command → Type 0
-NoRead c = (address silent : ℕ) → c ≡ ReadArray address silent → ⊥
-
--- from a byte on it shows one and the same, up to the frame's end
-abbrev pub SameFrom : Command → ℕ → ℕ → Type 0
-SameFrom c from count = (s : State) (m : ℕ → ℕ) (i : ℕ) → from ≤ i → i < count → shownAt s c m i ≡ shownAt s c m from

@@ -7,7 +7,8 @@ ghost use lib.ListN.{length};
 ghost use Rattle.common.specs.Lists.{tab};
 ghost use Rattle.common.specs.Limits.{longestFrame};
 ghost use Rattle.state.specs.State.{dataOf};
-ghost use Rattle.output.specs.Output.{byteOf, drivenOf, memory, since, readAt, jedec, identity, shownAt, NoRead, SameFrom};
+ghost use Rattle.output.specs.Output.{byteOf, drivenOf, memory, since, readAt, jedec, identity, shownAt};
+ghost use Rattle.output.specs.Runs.{NoRead, SameFrom};
 ghost use Rattle.command.specs.Fits.{Fits};
 
 // What the chip does with the line for one byte. A driven FF is not a silent byte, though both read FF.

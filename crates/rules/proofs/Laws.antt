@@ -6,6 +6,7 @@ pub mod Soundness
 pub mod Power
 pub mod Protection
 pub mod Time
+mod Among
 mod Kinds
 mod Lines
 mod Does

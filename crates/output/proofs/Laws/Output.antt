@@ -10,7 +10,7 @@ use lib.ListN.{length, getD}
 use lib.Seq.{ext-getD}
 use borrow.Author.Tests.{lt-ltb, le-ltb, le-leb, lt-leb}
 use Rattle.common.specs.Lists.{mapi, tab, onRun}
-use Rattle.common.proofs.Laws.Lists.{split, length-mapi, getD-mapi, length-tab, getD-tab}
+use Rattle.common.proofs.Laws.Lists.{split, length-mapi, getD-mapi, length-tab, getD-tab, mapi-mapi, mapi-cong, mapi-tab}
 use Rattle.output.specs.Output.{byteOf, drivenOf, memory, since, readAt}
 
 module _ (size from at : ℕ) (array output : List ℕ) (below : from < size) (short : length output ≤ size) where
@@ -84,26 +84,11 @@ module _ (at : ℕ) (driven : List ℕ) (bytes : ℕ → ℕ) where
   abbrev border : ℕ
   border = min at (length driven)
 
-  abbrev header : List ℕ
-  header = mapi (onRun 0 border (λ k x. 0)) driven
-
-  abbrev marked : List ℕ
-  marked = mapi (onRun border (length driven) (λ k x. 1)) header
-
-  header-long : length header ≡ length driven
-  header-long = length-mapi _ driven
-
-  mark-at : (i : ℕ) → i < length driven → getD marked i 0 ≡ drivenOf (since at i (bytes i))
-  mark-at i h =
-      getD-mapi _ header i 0 (omega (arith, header-long))
-      ∙ ap (onRun border (length driven) (λ k x. 1) i) (getD-mapi _ driven i 0 h)
-      ∙ ⊎-elim (λ b. rw (lt-leb border i b, le-leb 0 i (omega arith), lt-ltb i border b, lt-ltb i at (omega arith)) refl)
-      (λ a. rw (le-leb border i a, lt-ltb i (length driven) h, le-ltb i at (omega arith)) refl) (split i border)
-
-  pub driven-in-runs : marked ≡ tab (length driven) (λ i. drivenOf (since at i (bytes i)))
+  pub driven-in-runs : mapi (onRun border (length driven) (λ k x. 1)) (mapi (onRun 0 border (λ k x. 0)) driven)
+      ≡ tab (length driven) (λ i. drivenOf (since at i (bytes i)))
   driven-in-runs =
-      let shown : ℕ → ℕ = λ i. drivenOf (since at i (bytes i)) in
-      ext-getD 0 marked (tab (length driven) shown)
-      (length-mapi _ header ∙ header-long ∙ sym (length-tab (length driven) shown))
-      (λ i l. let h : i < length driven = omega (arith, length-mapi (onRun border (length driven) (λ k x. 1)) header, header-long) in
-      mark-at i h ∙ sym (getD-tab (length driven) shown i 0 h))
+      mapi-mapi (onRun 0 border (λ k x. 0)) (onRun border (length driven) (λ k x. 1)) driven
+      ∙ mapi-cong (λ k x. onRun border (length driven) (λ k x. 1) k (onRun 0 border (λ k x. 0) k x)) (λ k x. drivenOf (since at k (bytes k))) driven
+      (λ k h. ⊎-elim (λ b. rw (lt-leb border k b, le-leb 0 k (omega arith), lt-ltb k border b, lt-ltb k at (omega arith)) refl)
+      (λ a. rw (le-leb border k a, lt-ltb k (length driven) h, le-ltb k at (omega arith)) refl) (split k border))
+      ∙ mapi-tab (λ i. drivenOf (since at i (bytes i))) driven

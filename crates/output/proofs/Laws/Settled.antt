@@ -35,7 +35,8 @@ use Rattle.command.specs.declared.Command.the-variants.{
 }
 use Rattle.command.proofs.Command.{the-type}
 use Rattle.output.specs.declared.Shown.the-variants.{Silent}
-use Rattle.output.specs.Output.{shownAt, NoRead, SameFrom}
+use Rattle.output.specs.Output.{shownAt}
+use Rattle.output.specs.Runs.{NoRead, SameFrom}
 
 -- ---- a command that shows nothing
 

@@ -8,8 +8,8 @@ use Prim.Native.Nat.{ℕ, zero, suc, _+_, _%_}
 use native.Mathlib.Omega.{arith}
 use lib.Dec.{leb, eqb}
 use lib.ListN.{length, getD}
-use borrow.Author.Tests.{lt-ltb, le-ltb, le-leb, lt-leb, eqb-true, ne-eqb}
-use Rattle.common.proofs.Laws.Booleans.{and-l, and-r, or-imp, imp-or, or-none-l, or-none-r}
+use borrow.Author.Tests.{lt-ltb, le-ltb, le-leb, lt-leb, ne-eqb}
+use Rattle.common.proofs.Laws.Booleans.{imp-or, or-none-l, or-none-r}
 use Rattle.common.proofs.Laws.Choice.{cases}
 use Rattle.common.proofs.Laws.Lists.{split, getD-tab, length-tab}
 use Rattle.state.specs.declared.State.{State}
@@ -47,6 +47,7 @@ use Rattle.rules.specs.Opcodes.{
 use Rattle.rules.specs.Driven.{isAnswered, isNamed, isDriven, DrivenBytes, DrivenRules}
 use Rattle.rules.proofs.Laws.Does.{done}
 use Rattle.rules.proofs.Laws.Tests.{off}
+use Rattle.rules.proofs.Laws.Among.{each, among, among-not, either}
 use Rattle.rules.proofs.Laws.Frames.{frame-rules}
 use Rattle.rules.proofs.Laws.Reads.{reads}
 use Rattle.rules.proofs.Laws.Switches.{switches}
@@ -79,19 +80,6 @@ three a b c (suc (suc (suc (suc i)))) =
     let n : ℕ = suc (suc (suc (suc i))) in
     rw (ne-eqb n 1 (λ e. absurd (omega arith)), ne-eqb n 2 (λ e. absurd (omega arith)), ne-eqb n 3 (λ e. absurd (omega arith)), le-leb 1 n (omega arith), le-leb 4 n (omega arith)) refl
 
--- ---- lists of opcodes
-
--- what holds of each of them holds of one among them
-abbrev each : (ℕ → Bool) → List ℕ → Bool
-each test [] = true
-each test (op ∷ ops) = test op && each test ops
-
-among : (test : ℕ → Bool) (ops : List ℕ) (op : ℕ) → each test ops ≡ true → isAmong op ops ≡ true → test op ≡ true
-among test [] op all listed = absurd (false≢true listed)
-among test (known ∷ ops) op all listed =
-    cases (eqb op known) (λ e. rw (eqb-true op known e) (and-l (test known) (each test ops) all))
-    (λ other. among test ops op (and-r (test known) (each test ops) all) (or-imp (eqb op known) (isAmong op ops) listed other))
-
 -- the opcodes that read
 abbrev reading : List ℕ
 reading = 0x05 ∷ 0xab ∷ 0x03 ∷ 0x0b ∷ 0x9f ∷ 0x90 ∷ []
@@ -113,8 +101,7 @@ none-asleep false false busy aai = refl
 
 unanswered : (op : ℕ) (s : State) → isAmong op reading ≡ false → isAnswered op s ≡ false
 unanswered op s none =
-    let no : (x : ℕ) → isAmong x reading ≡ true → eqb op x ≡ false =
-    λ x listed. cases (eqb op x) (λ e. absurd (true≢false (sym (rw (sym (eqb-true op x e)) at listed) ∙ none))) (λ other. other) in
+    let no : (known : ℕ) → isAmong known reading ≡ true → eqb op known ≡ false = λ known listed. among-not op known reading none listed in
     rw (no 0x05 refl, no 0xab refl, no 0x03 refl, no 0x0b refl, no 0x9f refl, no 0x90 refl) refl
 
 module _ {wp : Bool} {f : List ℕ} {d : Device} {line : Line} (a : Accepted wp f d line) where
@@ -182,10 +169,6 @@ module _ {wp : Bool} {f : List ℕ} {d : Device} {line : Line} (a : Accepted wp 
 
   -- ---- by the rule that the frame falls under
 
-  -- it is the opcode, or another
-  either : (op : ℕ) → (opcode f ≡ op → Told) → (eqb (opcode f) op ≡ false → Told) → Told
-  either op here other = cases (eqb (opcode f) op) (λ e. here (eqb-true (opcode f) op e)) other
-
   -- an opcode that does not read
   quiet : {registers : State} {change : Change} {taken : Bool} (op : ℕ) → TakenIf wp f d line taken (Does wp f d line silent registers change)
       → opcode f ≡ op → isAmong op reading ≡ false → Told
@@ -193,29 +176,29 @@ module _ {wp : Bool} {f : List ℕ} {d : Device} {line : Line} (a : Accepted wp 
 
   resting-told : Resting s → isAmong (opcode f) (0x03 ∷ 0x0b ∷ 0x9f ∷ 0x90 ∷ 0x06 ∷ 0x01 ∷ 0x20 ∷ 0xd8 ∷ 0x60 ∷ 0xc7 ∷ []) ≡ true → Told
   resting-told r listed =
-      either 0x03 (read-told r)
-      (λ no-read. either 0x0b (fast-read-told r)
-      (λ no-fast-read. either 0x9f (jedec-told r)
-      (λ no-jedec. either 0x90 (identity-told r)
-      (λ no-identity. either 0x06 (λ e. quiet 0x06 (switches a .write-enable r e) e refl)
-      (λ no-enable. either 0x01 (λ e. quiet 0x01 (switches a .write-status r e) e refl)
-      (λ no-status. either 0x20 (λ e. quiet 0x20 (writes a .sector-erase r e) e refl)
-      (λ no-sector. either 0xd8 (λ e. quiet 0xd8 (writes a .block-erase r e) e refl)
-      (λ no-block. either 0x60 (λ e. quiet 0x60 (writes a .chip-erase r 0x60 (inl refl) e) e refl)
-      (λ no-60. either 0xc7 (λ e. quiet 0xc7 (writes a .chip-erase r 0xc7 (inr refl) e) e refl)
+      either (opcode f) 0x03 (read-told r)
+      (λ no-read. either (opcode f) 0x0b (fast-read-told r)
+      (λ no-fast-read. either (opcode f) 0x9f (jedec-told r)
+      (λ no-jedec. either (opcode f) 0x90 (identity-told r)
+      (λ no-identity. either (opcode f) 0x06 (λ e. quiet 0x06 (switches a .write-enable r e) e refl)
+      (λ no-enable. either (opcode f) 0x01 (λ e. quiet 0x01 (switches a .write-status r e) e refl)
+      (λ no-status. either (opcode f) 0x20 (λ e. quiet 0x20 (writes a .sector-erase r e) e refl)
+      (λ no-sector. either (opcode f) 0xd8 (λ e. quiet 0xd8 (writes a .block-erase r e) e refl)
+      (λ no-block. either (opcode f) 0x60 (λ e. quiet 0x60 (writes a .chip-erase r 0x60 (inl refl) e) e refl)
+      (λ no-60. either (opcode f) 0xc7 (λ e. quiet 0xc7 (writes a .chip-erase r 0xc7 (inr refl) e) e refl)
       (λ no-c7. absurd (false≢true (rw (no-read, no-fast-read, no-jedec, no-identity, no-enable, no-status, no-sector, no-block, no-60, no-c7) at listed))))))))))))
 
   on-008a-told : Resting s → s .chip ≡ 8 → isAmong (opcode f) (0x50 ∷ 0xad ∷ 0x02 ∷ []) ≡ true → Told
   on-008a-told r is listed =
-      either 0x50 (λ e. quiet 0x50 (switches a .enable-status r is e) e refl)
-      (λ no-enable. either 0xad (λ e. quiet 0xad (writes a .first-word r is e) e refl)
-      (λ no-word. either 0x02 (λ e. quiet 0x02 (writes a .byte-program r is e) e refl)
+      either (opcode f) 0x50 (λ e. quiet 0x50 (switches a .enable-status r is e) e refl)
+      (λ no-enable. either (opcode f) 0xad (λ e. quiet 0xad (writes a .first-word r is e) e refl)
+      (λ no-word. either (opcode f) 0x02 (λ e. quiet 0x02 (writes a .byte-program r is e) e refl)
       (λ no-program. absurd (false≢true (rw (no-enable, no-word, no-program) at listed)))))
 
   on-05pa-told : Resting s → s .chip ≡ 5 → isAmong (opcode f) (0xb9 ∷ 0x02 ∷ []) ≡ true → Told
   on-05pa-told r is listed =
-      either 0xb9 (λ e. quiet 0xb9 (switches a .power-down r is e) e refl)
-      (λ no-power-down. either 0x02 (λ e. quiet 0x02 (writes a .page-program r is e) e refl)
+      either (opcode f) 0xb9 (λ e. quiet 0xb9 (switches a .power-down r is e) e refl)
+      (λ no-power-down. either (opcode f) 0x02 (λ e. quiet 0x02 (writes a .page-program r is e) e refl)
       (λ no-program. absurd (false≢true (rw (no-power-down, no-program) at listed))))
 
   -- an opcode that reads is known on either chip

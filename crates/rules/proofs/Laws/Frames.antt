@@ -6,8 +6,7 @@ use mathlib.Core.List.{List, [], _∷_}
 use mathlib.Core.Logic.{⊎-elim}
 use Prim.Native.Nat.{ℕ, _-_, _<_}
 use lib.Dec.{eqb}
-use borrow.Author.Tests.{ltb-true, eqb-true}
-use Rattle.common.proofs.Laws.Choice.{cases}
+use borrow.Author.Tests.{ltb-true}
 use Rattle.common.proofs.Laws.Booleans.{or-none-l, or-none-i, and-l, and-r}
 use Rattle.common.proofs.Laws.Lists.{mapi-id}
 use Rattle.chip.specs.declared.Chip.{Chip}
@@ -23,15 +22,11 @@ use Rattle.frame.specs.Call.{Accepted}
 use Rattle.rules.specs.Chips.{byChip}
 use Rattle.rules.specs.Frames.{opcode, Ignored, isAmong, opcodes008A, opcodes05PA, FrameRules}
 use Rattle.rules.proofs.Laws.Chips.{data-by-chip, kind-by-chip}
+use Rattle.rules.proofs.Laws.Among.{among-not}
 use Rattle.rules.proofs.Laws.Does.{ignored, by-mode}
 use Rattle.rules.proofs.Laws.Armed.{armed-is}
 
 -- ---- opcodes among others
-
--- an opcode that is not among some is none of them
-among-not : (op known : ℕ) (list : List ℕ) → isAmong op list ≡ false → isAmong known list ≡ true → eqb op known ≡ false
-among-not op known list other listed =
-    cases (eqb op known) (λ e. absurd (true≢false (sym listed ∙ ap (λ (n : ℕ). isAmong n list) (sym (eqb-true op known e)) ∙ other))) (λ e. e)
 
 -- all instructions have their opcodes among some
 abbrev areAmong : List (ℕ × ℕ) → List ℕ → Bool

@@ -32,12 +32,9 @@ use Rattle.rules.specs.Opcodes.{
 }
 use Rattle.rules.proofs.Laws.Does.{by-mode}
 use Rattle.rules.proofs.Laws.Tests.{off}
+use Rattle.rules.proofs.Laws.Among.{either}
 
 module _ {wp : Bool} {f : List ℕ} {d : Device} {line : Line} (a : Accepted wp f d line) where
-  -- it is the opcode, or another
-  either : (op : ℕ) → (opcode f ≡ op → Ruled f d) → (eqb (opcode f) op ≡ false → Ruled f d) → Ruled f d
-  either op here other = cases (eqb (opcode f) op) (λ e. here (eqb-true (opcode f) op e)) other
-
   one-of : (op : ℕ) → isAmong (opcode f) (op ∷ []) ≡ true → opcode f ≡ op
   one-of op listed =
       cases (eqb (opcode f) op) (eqb-true (opcode f) op) (λ other. absurd (false≢true (or-imp (eqb (opcode f) op) false listed other)))
@@ -47,8 +44,8 @@ module _ {wp : Bool} {f : List ℕ} {d : Device} {line : Line} (a : Accepted wp 
   running : d .state .left ≡ 0 → d .state .aai ≡ true → isAmong (opcode f) (0xad ∷ 0x05 ∷ 0x04 ∷ []) ≡ true → Ruled f d
   running still aai listed =
       let awake = off (d .state .«power_down») (λ asleep. regular (d .state .chip) .aai-without-power-down (a .sound .aai-had aai) (a .sound .power-down-had asleep)) in
-      either 0xad (next-word still aai)
-      (λ no-word. either 0x05 (read-status awake)
+      either (opcode f) 0xad (next-word still aai)
+      (λ no-word. either (opcode f) 0x05 (read-status awake)
       (λ no-status. write-disable still awake (one-of 0x04 (or-imp (eqb (opcode f) 0x05) _ (or-imp (eqb (opcode f) 0xad) _ listed no-word) no-status))))
 
   -- ---- at rest
@@ -56,22 +53,22 @@ module _ {wp : Bool} {f : List ℕ} {d : Device} {line : Line} (a : Accepted wp 
   module _ (r : Resting (d .state)) where
     shared : isAmong (opcode f) sharedOpcodes ≡ true → eqb (opcode f) 0x02 ≡ false → Ruled f d
     shared listed no-program =
-        either 0x05 (read-status (r .awake))
-        (λ no-status. either 0xab (signature (r .still) (r .single))
-        (λ no-signature. either 0x04 (write-disable (r .still) (r .awake))
+        either (opcode f) 0x05 (read-status (r .awake))
+        (λ no-status. either (opcode f) 0xab (signature (r .still) (r .single))
+        (λ no-signature. either (opcode f) 0x04 (write-disable (r .still) (r .awake))
         (λ no-disable. at-rest r (rw (no-status, no-signature, no-disable, no-program) at listed))))
 
     resting-008a : d .state .chip ≡ 8 → isAmong (opcode f) opcodes008A ≡ true → Ruled f d
     resting-008a is listed =
-        either 0x50 (λ e. on-008a r is (rw e refl))
-        (λ no-enable. either 0xad (λ e. on-008a r is (rw e refl))
-        (λ no-word. either 0x02 (λ e. on-008a r is (rw e refl))
+        either (opcode f) 0x50 (λ e. on-008a r is (rw e refl))
+        (λ no-enable. either (opcode f) 0xad (λ e. on-008a r is (rw e refl))
+        (λ no-word. either (opcode f) 0x02 (λ e. on-008a r is (rw e refl))
         (shared (or-imp (eqb (opcode f) 0xad) _ (or-imp (eqb (opcode f) 0x50) _ listed no-enable) no-word))))
 
     resting-05pa : d .state .chip ≡ 5 → isAmong (opcode f) opcodes05PA ≡ true → Ruled f d
     resting-05pa is listed =
-        either 0xb9 (λ e. on-05pa r is (rw e refl))
-        (λ no-power-down. either 0x02 (λ e. on-05pa r is (rw e refl))
+        either (opcode f) 0xb9 (λ e. on-05pa r is (rw e refl))
+        (λ no-power-down. either (opcode f) 0x02 (λ e. on-05pa r is (rw e refl))
         (shared (or-imp (eqb (opcode f) 0xb9) _ listed no-power-down)))
 
     resting : isAmong (opcode f) (byChip (d .state .chip) opcodes008A opcodes05PA) ≡ true → Ruled f d
