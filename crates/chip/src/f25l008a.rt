@@ -17,6 +17,7 @@ pub fn data() -> Chip
         device_id: 0x13,
         block_time: 1000000,
         chip_time: 8000000,
+        status_time: 0,
         aai: true,
         word_plans: true,
         ewsr: true,

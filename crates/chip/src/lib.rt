@@ -20,6 +20,8 @@ pub struct Chip {
     // microseconds of a block erase and of a chip erase; nothing takes longer than the latter
     pub block_time: u32,
     pub chip_time: u32,
+    // microseconds of a status write; 0 where it is done at once
+    pub status_time: u32,
     // AD programs words (AAI)
     pub aai: bool,
     // plans go by words, else by pages

@@ -67,7 +67,7 @@ writable s end = s .wel && leb end (firstProtected s)
 
 -- "Status write is taken only if armed, and not if BPL is 1 while WP is low."
 abbrev pub writeStatus : State → Bool → List ℕ → Command
-writeStatus s wp f = when (long f 2) (when (s .armed) (when (not (s .bpl) || wp) (WriteStatus (getD f 1 0))))
+writeStatus s wp f = when (long f 2) (when (s .armed) (when (not (s .bpl) || wp) (WriteStatus (getD f 1 0) (dataOf s .«status_time»))))
 
 abbrev pub erase : State → ℕ → ℕ → ℕ → Command
 erase s start count time = when (writable s (start + count)) (Erase start count time)

@@ -14,7 +14,7 @@ pub enum Command {
     WriteEnable,
     WriteDisable,
     Arm,
-    WriteStatus(u8),
+    WriteStatus { byte: u8, time: u32 },
     Erase { start: u32, count: u32, time: u32 },
     // the data is the frame's byte 4
     ProgramByte { address: u32 },

@@ -63,7 +63,10 @@ pub fn write_status(s: State, wp: bool, input: &[u8]) -> Command
         return Command::Ignored;
     }
     if !s.bpl | wp {
-        return Command::WriteStatus(common::byte_at(input, 1));
+        return Command::WriteStatus {
+            byte: common::byte_at(input, 1),
+            time: chip::chip_of(s.chip).status_time,
+        };
     }
     Command::Ignored
 }

@@ -2,27 +2,8 @@
 use command::Command;
 use state::State;
 ghost use mathlib.Core.Path.{_≡_};
-ghost use Prim.Native.Nat.{_<_};
-ghost use Rattle.registers.specs.Registers.{has, withStatusByte, stateAfter};
+ghost use Rattle.registers.specs.Registers.{stateAfter};
 ghost use Rattle.command.specs.Fits.{Fits};
-
-fn has_bit(byte: u8, value: u8) -> bool
-    requires { ⌜ 0 < value ⌝ }
-    ensures { λ r. ⌜ r ≡ has byte value ⌝ }
-{
-    byte / value % 2 == 1
-}
-
-// The bits that a status write sets, from its byte.
-fn with_status_byte(s: State, byte: u8) -> State
-    ensures { λ r. ⌜ r ≡ withStatusByte s byte ⌝ }
-{
-    let mut t = s;
-    t.bp = byte / 4 % 8;
-    t.tb = chip::chip_of(s.chip).top_bottom & has_bit(byte, 32);
-    t.bpl = has_bit(byte, 128);
-    t
-}
 
 // "Every taken frame clears armed too, but WREN and EWSR, which set it."
 pub fn state_after(s: State, c: Command) -> State
@@ -42,8 +23,8 @@ pub fn state_after(s: State, c: Command) -> State
             t.next = 0;
         }
         Command::Arm => t.armed = true,
-        Command::WriteStatus(byte) => {
-            t = with_status_byte(t, byte);
+        Command::WriteStatus { byte, .. } => {
+            t = state::status::with_status_byte(t, byte);
             t.wel = false;
         }
         Command::Erase { time, .. } => t.left = time,

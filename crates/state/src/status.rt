@@ -1,7 +1,8 @@
-// The status register as 05 shows it.
+// The status register: as 05 shows it, and as 01 writes it.
 use crate::State;
 ghost use mathlib.Core.Path.{_≡_};
-ghost use Rattle.state.specs.Status.{statusOf};
+ghost use Prim.Native.Nat.{_<_};
+ghost use Rattle.state.specs.Status.{statusOf, has, withStatusByte};
 
 pub fn status_of(s: State) -> u8
     ensures { λ r. ⌜ r ≡ statusOf s ⌝ }
@@ -13,4 +14,22 @@ pub fn status_of(s: State) -> u8
         + common::bit_of(chip.top_bottom & s.tb, 32)
         + common::bit_of(chip.aai & s.aai, 64)
         + common::bit_of(s.bpl, 128)
+}
+
+fn has_bit(byte: u8, value: u8) -> bool
+    requires { ⌜ 0 < value ⌝ }
+    ensures { λ r. ⌜ r ≡ has byte value ⌝ }
+{
+    byte / value % 2 == 1
+}
+
+// The bits that a status write sets, from its byte.
+pub fn with_status_byte(s: State, byte: u8) -> State
+    ensures { λ r. ⌜ r ≡ withStatusByte s byte ⌝ }
+{
+    let mut t = s;
+    t.bp = byte / 4 % 8;
+    t.tb = chip::chip_of(s.chip).top_bottom & has_bit(byte, 32);
+    t.bpl = has_bit(byte, 128);
+    t
 }

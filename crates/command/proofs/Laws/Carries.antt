@@ -11,6 +11,7 @@ use borrow.Author.Tests.{leb-true, eqb-true}
 use Rattle.common.proofs.Laws.Choice.{cond-elim}
 use Rattle.common.proofs.Laws.Pairs.{_▹_}
 use Rattle.state.specs.declared.State.{State}
+use Rattle.state.specs.State.{dataOf}
 use Rattle.chip.specs.Chip.{kindOf}
 use Rattle.command.specs.declared.Command.{Command}
 use Rattle.command.specs.declared.Command.the-variants.{
@@ -54,7 +55,7 @@ module _ (s : State) (wp : Bool) (f : List ℕ) where
       ▹ (λ _. given _ (long f 6) (λ e. given (ProgramWord (a / 2 * 2) 4) (writable s (a / 2 * 2 + 2)) (λ _. let h = long-is 6 e in omega arith)))
       ▹ (λ _. tt)
       ▹ (λ _. given Arm (long f 1) (λ _. tt))
-      ▹ (λ _. given _ (long f 2) (λ _. given _ (s .armed) (λ _. given (WriteStatus (getD f 1 0)) (not (s .bpl) || wp) (λ _. tt))))
+      ▹ (λ _. given _ (long f 2) (λ _. given _ (s .armed) (λ _. given (WriteStatus (getD f 1 0) (dataOf s .«status_time»)) (not (s .bpl) || wp) (λ _. tt))))
       ▹ (λ _. given WriteEnable (long f 1) (λ _. tt))
       ▹ (λ _. given WriteDisable (long f 1) (λ _. tt))
       ▹ (λ _. given Sleep (long f 1) (λ _. tt))

@@ -1,6 +1,6 @@
 -- What `commandOf` gives fits the state that the frame was read at.
 -- Assumes nothing.
-use mathlib.Core.Path.{_≡_}
+use mathlib.Core.Path.{_≡_, refl}
 use mathlib.Core.Bool.{Bool, true, false, _||_, not}
 use mathlib.Core.List.{List, [], _∷_}
 use Prim.Native.Nat.{ℕ, _+_, _-_, _*_, _/_, _≤_, _<_}
@@ -73,7 +73,7 @@ module _ (s : State) (wp : Bool) (f : List ℕ) where
       (λ w. (record { aai-had = k .aai-program-needs-aai op e; still = r .still; awake = r .awake; even = omega arith }, open-of s (a / 2 * 2 + 2) w))))
       ▹ (λ _. tt)
       ▹ (λ e. given Arm (long f 1) (λ _. (r, k .ewsr-needs-ewsr op e)))
-      ▹ (λ _. given _ (long f 2) (λ _. given _ (s .armed) (λ _. given (WriteStatus (getD f 1 0)) (not (s .bpl) || wp) (λ _. r))))
+      ▹ (λ _. given _ (long f 2) (λ _. given _ (s .armed) (λ a. given (WriteStatus (getD f 1 0) (dataOf s .«status_time»)) (not (s .bpl) || wp) (λ _. (r, (a, refl))))))
       ▹ (λ _. given WriteEnable (long f 1) (λ _. r))
       ▹ (λ _. given WriteDisable (long f 1) (λ _. r .still))
       ▹ (λ e. given Sleep (long f 1) (λ _. (r, k .power-down-needs-sleeps op e)))

@@ -48,7 +48,7 @@ module _ (s : State) (wp : Bool) where
     ewsr-taken e = rw (seen-at-rest s (0x50 ∷ []) wp r, regular (s .chip) .ewsr-is-50 e) refl
 
     -- armed, and not with BPL 1 while WP is low
-    pub wrsr-taken : (byte : ℕ) → s .armed ≡ true → not (s .bpl) || wp ≡ true → commandOf s wp (0x01 ∷ byte ∷ []) ≡ WriteStatus byte
+    pub wrsr-taken : (byte : ℕ) → s .armed ≡ true → not (s .bpl) || wp ≡ true → commandOf s wp (0x01 ∷ byte ∷ []) ≡ WriteStatus byte (dataOf s .«status_time»)
     wrsr-taken byte a e = rw (seen-at-rest s (0x01 ∷ byte ∷ []) wp r, regular (s .chip) .wrsr-is-01, a, e) refl
 
     pub first-word-taken : (a x y : ℕ) → dataOf s .«word_plans» ≡ true → a % 2 ≡ 0 → Open s (a + 2)

@@ -63,9 +63,9 @@ module _ (s : State) (m : ℕ → ℕ) (i : ℕ) where
   unfolding shownAt
   shows-arm = refl
 
-  pub shows-write-status : (byte : ℕ) → shownAt s (WriteStatus byte) m i ≡ Silent
+  pub shows-write-status : (byte time : ℕ) → shownAt s (WriteStatus byte time) m i ≡ Silent
   unfolding shownAt
-  shows-write-status byte = refl
+  shows-write-status byte time = refl
 
   pub shows-erase : (address count time : ℕ) → shownAt s (Erase address count time) m i ≡ Silent
   unfolding shownAt

@@ -39,7 +39,7 @@ module _ (wp : Bool) (s : State) (bp : ℕ) (wel armed : Bool) where
   arm e = ewsr-taken (rest s bp wel armed) wp (at-rest s bp wel armed) e
 
   -- armed, and not with BPL 1 while WP is low
-  pub write-status : (byte : ℕ) → not (s .bpl) || wp ≡ true → commandOf (rest s bp wel true) wp (0x01 ∷ byte ∷ []) ≡ WriteStatus byte
+  pub write-status : (byte : ℕ) → not (s .bpl) || wp ≡ true → commandOf (rest s bp wel true) wp (0x01 ∷ byte ∷ []) ≡ WriteStatus byte (dataOf s .«status_time»)
   write-status byte e = wrsr-taken (rest s bp wel true) wp (at-rest s bp wel true) byte refl e
 
 -- ---- words

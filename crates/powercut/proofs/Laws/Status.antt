@@ -12,7 +12,8 @@ use Rattle.state.specs.declared.State.{State}
 use Rattle.state.specs.State.{dataOf}
 use Rattle.common.specs.Bits.{bit}
 use Rattle.command.specs.declared.Command.the-variants.{WriteEnable, Arm, WriteStatus}
-use Rattle.registers.specs.Registers.{has, stateAfter}
+use Rattle.state.specs.Status.{has}
+use Rattle.registers.specs.Registers.{stateAfter}
 use Rattle.registers.proofs.Laws.After.{after-arm, after-write-enable, after-write-status}
 use Rattle.script.specs.Record.{frame}
 use Rattle.common.proofs.Laws.Flags.{bit-le}
@@ -49,9 +50,9 @@ has-tb false true h = h refl
 has-tb false false h = refl
 
 status-written : (s : State) (bp to : ℕ) (wel : Bool) → to ≤ 7 → (s .tb ≡ true → dataOf s .«top_bottom» ≡ true)
-    → stateAfter (rest s bp wel true) (WriteStatus (statusByte to (s .tb) (s .bpl))) ≡ rest s to false false
+    → stateAfter (rest s bp wel true) (WriteStatus (statusByte to (s .tb) (s .bpl)) (dataOf s .«status_time»)) ≡ rest s to false false
 status-written s bp to wel low topped =
-    after-write-status (rest s bp wel true) (statusByte to (s .tb) (s .bpl))
+    after-write-status (rest s bp wel true) (statusByte to (s .tb) (s .bpl)) (dataOf s .«status_time»)
     ∙ rw (level-back to (s .tb) (s .bpl) low, tb-back to (s .tb) (s .bpl) low, bpl-back to (s .tb) (s .bpl) low, has-tb (dataOf s .«top_bottom») (s .tb) topped) refl
 
 -- ---- the two frames
@@ -69,7 +70,7 @@ module _ (t : Task) (topped : t .chip .state .tb ≡ true → dataOf (t .chip .s
       (z : ℕ) (array : List ℕ) (near : OnItsWay t array) (done : Done t z array) where
     second : (wel : Bool) → Runs t (rest s to false false) z (frame (0x01 ∷ statusByte to (s .tb) (s .bpl) ∷ []) ∷ []) (rest s bp wel true) array
     second wel =
-        ran-quiet t (WriteStatus (statusByte to (s .tb) (s .bpl))) (write-status (t .level) s bp wel true (statusByte to (s .tb) (s .bpl)) free) refl (held-at s bp held) near
+        ran-quiet t (WriteStatus (statusByte to (s .tb) (s .bpl)) (dataOf s .«status_time»)) (write-status (t .level) s bp wel true (statusByte to (s .tb) (s .bpl)) free) refl (held-at s bp held) near
         (rw (status-written s bp to wel low topped) (ran-nil t z (held-at s to held-to) near done))
 
     pub status-ran : (wel armed : Bool) → Runs t (rest s to false false) z (statusRecords s to) (rest s bp wel armed) array

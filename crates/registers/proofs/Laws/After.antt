@@ -23,7 +23,8 @@ use Rattle.command.specs.declared.Command.the-variants.{
   ProgramWord,
   Sleep,
 }
-use Rattle.registers.specs.Registers.{disarm, withStatusByte, stateAfter}
+use Rattle.state.specs.Status.{withStatusByte}
+use Rattle.registers.specs.Registers.{disarm, stateAfter}
 
 module _ (s : State) where
   pub after-ignored : stateAfter s Ignored ≡ disarm s
@@ -62,9 +63,9 @@ module _ (s : State) where
   unfolding stateAfter
   after-arm = refl
 
-  pub after-write-status : (byte : ℕ) → stateAfter s (WriteStatus byte) ≡ withWel (withStatusByte (disarm s) byte) false
+  pub after-write-status : (byte time : ℕ) → stateAfter s (WriteStatus byte time) ≡ withWel (withStatusByte (disarm s) byte) false
   unfolding stateAfter
-  after-write-status byte = refl
+  after-write-status byte time = refl
 
   pub after-erase : (address count time : ℕ) → stateAfter s (Erase address count time) ≡ withLeft (disarm s) time
   unfolding stateAfter
@@ -97,7 +98,7 @@ state-after-chip s (ReadIdentity b) = refl
 state-after-chip s WriteEnable = refl
 state-after-chip s WriteDisable = refl
 state-after-chip s Arm = refl
-state-after-chip s (WriteStatus b) = refl
+state-after-chip s (WriteStatus b t) = refl
 state-after-chip s (Erase a n t) = refl
 state-after-chip s (ProgramByte a) = refl
 state-after-chip s (ProgramPage a n) = refl
@@ -115,7 +116,7 @@ arms (ReadIdentity b) = false
 arms WriteEnable = true
 arms WriteDisable = false
 arms Arm = true
-arms (WriteStatus b) = false
+arms (WriteStatus b t) = false
 arms (Erase a n t) = false
 arms (ProgramByte a) = false
 arms (ProgramPage a n) = false
@@ -133,7 +134,7 @@ state-after-armed s (ReadIdentity b) = refl
 state-after-armed s WriteEnable = refl
 state-after-armed s WriteDisable = refl
 state-after-armed s Arm = refl
-state-after-armed s (WriteStatus b) = refl
+state-after-armed s (WriteStatus b t) = refl
 state-after-armed s (Erase a n t) = refl
 state-after-armed s (ProgramByte a) = refl
 state-after-armed s (ProgramPage a n) = refl

@@ -10,6 +10,7 @@ use Rattle.state.specs.declared.State.{State}
 use Rattle.chip.specs.Chip.{isKnown}
 use Rattle.state.specs.State.{dataOf, withLeft, withPowerDown, withAai}
 use Rattle.state.specs.Soundness.{Sound}
+use Rattle.state.specs.Status.{has}
 use Rattle.chip.proofs.Laws.Chip.{regular}
 use Rattle.state.proofs.Laws.Protection.{first-by}
 use Rattle.command.specs.declared.Command.{Command}
@@ -31,7 +32,7 @@ use Rattle.command.specs.declared.Command.the-variants.{
   Sleep,
 }
 use Rattle.command.specs.Command.{commandOf}
-use Rattle.registers.specs.Registers.{has, disarm, stateAfter}
+use Rattle.registers.specs.Registers.{disarm, stateAfter}
 use Rattle.command.specs.Fits.{Resting, Open, Words, Fits}
 use Rattle.command.proofs.Laws.Fits.{fits}
 
@@ -138,8 +139,8 @@ state-after-sound s WriteDisable h k =
 state-after-sound s Arm h k =
     resting _ (h .chip-known) (h .bp-le-7) (k .0 .still) (k .0 .single) (h .next-0-without-aai (k .0 .single)) (λ _. k .0 .awake)
     (λ w _. absurd (true≢false (sym (k .1) ∙ w))) (h .tb-had) (h .power-down-had)
-state-after-sound s (WriteStatus b) h k =
-    resting _ (h .chip-known) (omega arith) (k .still) (k .single) (h .next-0-without-aai (k .single)) (λ e. absurd (false≢true e)) (λ _ e. absurd (false≢true e))
+state-after-sound s (WriteStatus b t) h k =
+    resting _ (h .chip-known) (omega arith) (k .0 .still) (k .0 .single) (h .next-0-without-aai (k .0 .single)) (λ e. absurd (false≢true e)) (λ _ e. absurd (false≢true e))
     (λ e. and-l (dataOf s .«top_bottom») (has b 32) e) (h .power-down-had)
 state-after-sound s (Erase a n t) h k = begun s h t (k .0) (k .1 .0 .enabled) (k .1 .1)
 state-after-sound s (ProgramByte a) h k = begun s h 7 (k .0) (k .1 .enabled) (omega (arith, regular (s .chip) .sector-le-chip-time))

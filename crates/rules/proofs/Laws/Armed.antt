@@ -75,7 +75,7 @@ module _ {wp : Bool} {f : List ℕ} {d : Device} {line : Line} (a : Accepted wp 
         ▹ (λ _. perhaps _ (long f 6) (perhaps (ProgramWord (address / 2 * 2) 4) (writable s (address / 2 * 2 + 2)) refl))
         ▹ (λ _. refl)
         ▹ (λ e. absurd (not-ewsr e))
-        ▹ (λ _. perhaps _ (long f 2) (perhaps _ (s .armed) (perhaps (WriteStatus (getD f 1 0)) (not (s .bpl) || wp) refl)))
+        ▹ (λ _. perhaps _ (long f 2) (perhaps _ (s .armed) (perhaps (WriteStatus (getD f 1 0) (dataOf s .«status_time»)) (not (s .bpl) || wp) refl)))
         ▹ (λ e. absurd (not-wren e))
         ▹ (λ _. perhaps WriteDisable (long f 1) refl)
         ▹ (λ _. perhaps Sleep (long f 1) refl)

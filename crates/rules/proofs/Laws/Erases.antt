@@ -77,7 +77,7 @@ module _ (s : State) (wp : Bool) (f : List ℕ) where
       ▹ (λ _. perhaps _ (long f 6) (perhaps (ProgramWord (a / 2 * 2) 4) (writable s (a / 2 * 2 + 2)) refl))
       ▹ (λ _. refl)
       ▹ (λ _. perhaps Arm (long f 1) refl)
-      ▹ (λ _. perhaps _ (long f 2) (perhaps _ (s .armed) (perhaps (WriteStatus (getD f 1 0)) (not (s .bpl) || wp) refl)))
+      ▹ (λ _. perhaps _ (long f 2) (perhaps _ (s .armed) (perhaps (WriteStatus (getD f 1 0) (dataOf s .«status_time»)) (not (s .bpl) || wp) refl)))
       ▹ (λ _. perhaps WriteEnable (long f 1) refl)
       ▹ (λ _. perhaps WriteDisable (long f 1) refl)
       ▹ (λ _. perhaps Sleep (long f 1) refl)

@@ -17,7 +17,7 @@ use Rattle.state.specs.State.{dataOf, withWel, withBits}
 use Rattle.command.specs.declared.Command.the-variants.{WriteStatus}
 use Rattle.command.specs.Command.{when, long, look, aaiRows}
 use Rattle.command.proofs.Laws.Modes.{seen-in-aai}
-use Rattle.registers.specs.Registers.{withStatusByte}
+use Rattle.state.specs.Status.{withStatusByte}
 use Rattle.registers.proofs.Laws.After.{after-write-enable, after-write-disable, after-arm, after-write-status, after-sleep}
 use Rattle.output.specs.Output.{memory}
 use Rattle.output.proofs.Laws.Shown.{shows-write-enable, shows-write-disable, shows-arm, shows-write-status, shows-sleep}
@@ -73,11 +73,11 @@ module _ {wp : Bool} {f : List ℕ} {d : Device} {line : Line} (a : Accepted wp 
         (λ c. does a c (λ i. shows-arm (d .state) (memory (d .array)) i) (after-arm (d .state)) (changes-nothing f refl));
     write-status = λ r e. row a
         (seen a r (kind-of-both a 0x01 wrsr refl refl e)
-        ∙ ap (when (long f 2)) (when-both (d .state .armed) (not (d .state .bpl) || wp) (WriteStatus (getD f 1 0)))
-        ∙ when-both (long f 2) (d .state .armed && (not (d .state .bpl) || wp)) (WriteStatus (getD f 1 0)))
+        ∙ ap (when (long f 2)) (when-both (d .state .armed) (not (d .state .bpl) || wp) (WriteStatus (getD f 1 0) (dataOf (d .state) .«status_time»)))
+        ∙ when-both (long f 2) (d .state .armed && (not (d .state .bpl) || wp)) (WriteStatus (getD f 1 0) (dataOf (d .state) .«status_time»)))
         (ap (λ (b : Bool). eqb (length f) 2 && (d .state .armed && b)) (not-locked (d .state .bpl)))
-        (λ c. does a c (λ i. shows-write-status (d .state) (memory (d .array)) i (getD f 1 0))
-        (after-write-status (d .state) (getD f 1 0) ∙ status-written (getD f 1 0)) (changes-nothing f refl));
+        (λ c. does a c (λ i. shows-write-status (d .state) (memory (d .array)) i (getD f 1 0) (dataOf (d .state) .«status_time»))
+        (after-write-status (d .state) (getD f 1 0) (dataOf (d .state) .«status_time») ∙ status-written (getD f 1 0)) (changes-nothing f refl));
     power-down = λ r n e. row a (seen a r (kind-of-one a 5 0xb9 deepPowerDown n refl e)) refl
         (λ c. does a c (λ i. shows-sleep (d .state) (memory (d .array)) i) (after-sleep (d .state)) (changes-nothing f refl));
   }

@@ -106,7 +106,7 @@ module _ (s : State) (off : s .wel ≡ false) where
         ▹ (λ _. harmless refl (after-read-status s) off)
         ▹ (λ _. perhaps Arm (long f 1) (λ _. harmless refl (after-arm s) off))
         ▹ (λ _. perhaps _ (long f 2) (λ _. perhaps _ (s .armed)
-        (λ _. perhaps (WriteStatus (getD f 1 0)) (not (s .bpl) || wp) (λ _. harmless refl (after-write-status s (getD f 1 0)) refl))))
+        (λ _. perhaps (WriteStatus (getD f 1 0) (dataOf s .«status_time»)) (not (s .bpl) || wp) (λ _. harmless refl (after-write-status s (getD f 1 0) (dataOf s .«status_time»)) refl))))
         ▹ (λ k. perhaps WriteEnable (long f 1) (λ one. absurd (true≢false (sym (and-i one (eq-eqb op 0x06 (regular (s .chip) .wren-only-06 op k))) ∙ other))))
         ▹ (λ _. perhaps WriteDisable (long f 1) (λ _. harmless refl (after-write-disable s) refl))
         ▹ (λ _. perhaps Sleep (long f 1) (λ _. harmless refl (after-sleep s) off))

@@ -16,11 +16,14 @@ returns-2 c = yes _ (eq-eqb _ 2 (c .before .before .if1 .left)) (no _ (not-true 
 byte-at-requires : tie.Need-byte-at-requires
 byte-at-requires c κs = search needs
 
+chip-of-requires : tie.Need-chip-of-requires
+chip-of-requires c κs = search needs
+
 returns-3 : tie.Need-returns-3
 returns-3 c =
-    yes _ (eq-eqb _ 2 (c .before .before .before .before .before .if1 .left))
-    (yes _ (not-false (c .before .before .before .before .before .before .before .args .s .armed) (c .before .before .before .if2 .left))
-    (yes _ (c .before .if3 .taken) (rw (c .byte-at .ensures) refl)))
+    yes _ (eq-eqb _ 2 (c .before .before .before .before .before .before .if1 .left))
+    (yes _ (not-false (c .before .before .before .before .before .before .before .before .args .s .armed) (c .before .before .before .before .if2 .left))
+    (yes _ (c .before .before .if3 .taken) (rw (c .before .byte-at .ensures, c .chip-of .ensures) refl)))
 
 returns-4 : tie.Need-returns-4
 returns-4 c =
@@ -28,4 +31,4 @@ returns-4 c =
     (yes _ (not-false (c .before .before .before .before .before .before .args .s .armed) (c .before .before .if2 .left)) (no _ (c .if3 .left) refl))
 
 pub write-status-spec : {M : Type 1} → statement M
-write-status-spec = tie.close (tie.spec returns returns-2 byte-at-requires returns-3 returns-4)
+write-status-spec = tie.close (tie.spec returns returns-2 byte-at-requires chip-of-requires returns-3 returns-4)

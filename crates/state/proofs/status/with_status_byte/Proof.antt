@@ -1,9 +1,9 @@
--- `registers::with_status_byte` meets its contract: each bit is the byte's.
+-- `state::status::with_status_byte` meets its contract: each bit is the byte's.
 -- Assumes nothing.
 use mathlib.Core.Path.{refl}
 use borrow.Author.Needs.{needs}
-use Rattle.registers.proofs.with_status_byte.Statement.{statement}
-use Rattle.registers.proofs.with_status_byte.Tie as tie
+use Rattle.state.proofs.status.with_status_byte.Statement.{statement}
+use Rattle.state.proofs.status.with_status_byte.Tie as tie
 
 chip-of-requires : tie.Need-chip-of-requires
 chip-of-requires c κs = search needs
