@@ -29,9 +29,11 @@
  * A sector of names in which a mark is damaged gives back what is still good by zeradok_salvage (below; examples/c/salvage.c). It works on an image of
  * the sector, in memory, and what it leaves there is not for writing back: its warning says why, and what to do.
  * Beside a real chip the model gets each frame and wait too, so that state and array stay the chip's; after power-up the array is read back
- * (03). Of what the line reads only the bytes count that the chip drives: a silent one may be anything (zeradok_frame; examples/c/read.c).
- * The waits are the sheets' typical times: wait on until bit 0 of the status (05) is 0. The F25L05PA's status write (01) takes no time
- * here but up to 15 ms there (40 ms below 2.7 V): wait for bit 0 behind it as well. A 05 between 06 or 50 and the 01 would spoil the 01.
+ * (03), and of an F25L05PA bp, tb and bpl (05; zeradok_new), since a cut status write leaves the old ones or the new.
+ * Of what the line reads only the bytes count that the chip drives: a silent one may be anything (zeradok_frame; examples/c/read.c).
+ * The waits are the sheets' typical times: wait on until bit 0 of the status (05) is 0. Behind the F25L05PA's status write (01), too: plans wait
+ * 5,000 microseconds for it, and its sheet's maximum is 15 ms, at 2.3 V to 2.7 V 40 ms (examples/c/protect.c). A 05 between 06 or 50 and the
+ * 01 would spoil the 01.
  *
  * `wp_high` is the level of the chip's WP pin: the same one for a plan and for sending it.
  */
@@ -51,14 +53,19 @@ extern "C" {
  * microseconds.
  *               bytes   frames   microseconds
  *   F25L008A   26,672    3,079         14,343
- *   F25L05PA    4,441       38         25,500
+ *   F25L05PA    4,453       38         35,500
  * Over both chips: */
 #define ZERADOK_WORST_BYTES 26672        /* a buffer of so many is never too short (refusal 10), nor is it for planning again after a cut */
 #define ZERADOK_WORST_FRAMES 3079        /* sent one by one: what a progress bar counts to */
-#define ZERADOK_WORST_MICROSECONDS 25500 /* waited in all: what a spinner is up for, beside the sending and what a chip takes over its typical times */
+#define ZERADOK_WORST_MICROSECONDS 35500 /* waited in all: what a spinner is up for, beside the sending and what a chip takes over its typical times */
 
-/* chip: 8 or 5; bp: BP2 BP1 BP0 as a number; armed: a status write may come next; left: microseconds until BUSY falls; next: AAI's next address. */
-typedef struct { uint8_t chip, bp; bool tb, bpl, wel, aai, armed, power_down; uint32_t left, next; } zeradok_state;
+/* chip: 8 or 5; bp: BP2 BP1 BP0 as a number; armed: a status write may come next; pending: one is running; pending_bits: the bits that it will set;
+ * left: microseconds until BUSY falls; next: AAI's next address.
+ * A status write (01) of the F25L05PA is a write cycle: it takes T_W, 5,000 microseconds, its sheet's typical time. Until left is 0 the chip is busy,
+ * wel stays true, and bp, tb and bpl are the old ones, in its status (05) and for what is protected. Then, in one instant, they are as pending_bits
+ * has them, in bits 2 to 4, 5 and 7 of the status, wel is false and nothing is pending. While nothing is, pending_bits is 0. On the F25L008A nothing
+ * ever is: its status write sets the bits at once. */
+typedef struct { uint8_t chip, bp; bool tb, bpl, wel, aai, armed, power_down, pending; uint8_t pending_bits; uint32_t left, next; } zeradok_state;
 
 typedef struct { uint32_t number; zeradok_state state; } zeradok_answer;
 
@@ -88,7 +95,7 @@ typedef struct { uint32_t number, length, kept; } zeradok_salvaged;
  * are bits 2 to 4, 5 and 7 of its status (05). Refusal 1: an unknown chip number (the state is then a new F25L05PA). Changes nothing. */
 zeradok_answer zeradok_new(uint8_t chip);
 
-/* The state after power-off and power-up. Refusal 1: the state is not sound. Changes nothing. */
+/* The state after power-off and power-up. With a status write pending it has the old bits. Refusal 1: the state is not sound. Changes nothing. */
 zeradok_answer zeradok_power_up(zeradok_state chip);
 
 /* The state when so many microseconds have passed. Refusal 1: the state is not sound. Changes nothing. */
@@ -106,13 +113,16 @@ uint32_t zeradok_frame(zeradok_state *chip, bool wp_high, uint8_t *array, size_t
                        uint8_t *output, size_t output_length, uint8_t *driven, size_t driven_length);
 
 /* Runs the frame while the power is cut, then powers up. The mask has one byte for each array byte that the frame programs or erases, by rising
- * address (none if it does neither): a 1 bit got its new value. Output and driven are the whole frame's, as if the power had stayed. Changes
- * *chip, array, output and driven. Refusals as above, and 5: mask length. */
+ * address (none if it does neither): a 1 bit got its new value. For a status write (01) that an F25L05PA takes it is one byte: 00, and the chip has
+ * the old bits, or FF, and it has the new ones; the array is the same. One that is ignored has none, nor has any on the F25L008A.
+ * Output and driven are the whole frame's, as if the power had stayed. Changes *chip, array, output and driven. Refusals as above, and 5: the mask's
+ * length, and for a status write that an F25L05PA takes any other value in the mask than 00 and FF. */
 uint32_t zeradok_cut_frame(zeradok_state *chip, bool wp_high, uint8_t *array, size_t array_length, const uint8_t *frame, size_t frame_length,
                            uint8_t *output, size_t output_length, uint8_t *driven, size_t driven_length, const uint8_t *mask, size_t mask_length);
 
 /* Plans the script that makes the bytes from start on as wanted, at the front of buffer. Changes buffer only; the state comes back as given.
- * Where nothing has to change the script is empty; where it must it unprotects the chip and protects it again. Refusals:
+ * Where nothing has to change the script is empty; where it must it unprotects the chip and protects it again, on the F25L05PA with a wait of 5,000
+ * microseconds behind each of the two status writes. Refusals:
  * 1 state, 2 array length, 6 over 4,096 wanted bytes or they end past the array: slips of the program;
  * 7 not at rest: wait while busy, end AAI by 04, power-down by AB;
  * 8 a wanted 1 where the array has 0: only an erase brings a 1 back, so give up that bit;

@@ -1,6 +1,6 @@
 #!/usr/bin/env bash
 # Program `play` at its edges: 01's sample, empty input, a script one byte too long, bad records at offsets of one to five digits,
-# a frame of 4,101 bytes, and silent bytes beside driven ones.
+# a frame of 4,101 bytes, silent bytes beside driven ones, and status writes that take their time.
 # The last line counts them, and the exit is non-zero where one fails.
 set -euo pipefail
 cd "$(dirname "$0")/.."
@@ -33,14 +33,23 @@ frame() {
     printf "$(printf '5a46%04x%s' $((${#1} / 2)) "$1" | sed 's/../\\x&/g')"
 }
 
-# name, the status at the end, and frames in hex, each with what must be printed of it
+# a wait's record, from its microseconds
+pause() {
+    printf "$(printf '5a57%08x' "$1" | sed 's/../\\x&/g')"
+}
+
+# name, the status at the end, and frames in hex, each with what must be printed of it, or "wait" with microseconds
 shows() {
     local name=$1 status=$2
     shift 2
     rm -f "$work/in" "$work/want"
     while [ $# -gt 0 ]; do
-        frame "$1" >>"$work/in"
-        echo "F $2" >>"$work/want"
+        if [ "$1" = wait ]; then
+            pause "$2" >>"$work/in"
+        else
+            frame "$1" >>"$work/in"
+            echo "F $2" >>"$work/want"
+        fi
         shift 2
     done
     echo "S $status" >>"$work/want"
@@ -117,6 +126,10 @@ shows "AB and 90 at their borders" 00 ab000000 -------- ab00000000 --------05 90
 shows "in power-down only AB is answered" 00 b9 -- 0500 ---- 0300000000 ---------- ab00000000 --------05 0500 --00
 shows "while busy only 05 is answered" 03 06 -- 0200000000 ---------- 0300000000 ---------- 9f00000000 ---------- 0500 --03
 shows "an unknown opcode and a wrong length" 00 700000 ------ 0600 ----
+
+# while a status write runs the status has BUSY, WEL and the old bits, at the end of the script too
+shows "a status write of 5,000 microseconds" 1C 06 -- 011c ---- 0500 --03 wait 4999 0500 --03 wait 1 0500 --1C
+shows "a script that ends in a status write" 03 06 -- 011c ---- 06 -- 0300000000 ---------- wait 4999
 
 echo "$passed passed, $failed failed"
 [ "$failed" -eq 0 ]

@@ -1,6 +1,6 @@
-/* 01's sample sessions, which bytes the chip drives, a plan of each chip, the flag book, salvaged name sectors, flags by name and the refusals 1 to
- * 15 and 18 to 20, by a C program that knows include/zeradok.h and nothing else. Every byte of each output, of which bytes are driven and of the
- * array is compared; behind the first two nothing may be written. */
+/* 01's sample sessions, which bytes the chip drives, a plan of each chip, the F25L05PA's status write, the flag book, salvaged name sectors, flags by
+ * name and the refusals 1 to 15 and 18 to 20, by a C program that knows include/zeradok.h and nothing else. Every byte of each output, of which bytes
+ * are driven and of the array is compared; behind the first two nothing may be written. */
 #include "zeradok.h"
 
 #include <stdio.h>
@@ -40,7 +40,7 @@ static bool becomes(size_t address, uint8_t value)
 static bool same_state(zeradok_state a, zeradok_state b)
 {
     return a.chip == b.chip && a.bp == b.bp && a.tb == b.tb && a.bpl == b.bpl && a.wel == b.wel && a.aai == b.aai && a.armed == b.armed
-        && a.power_down == b.power_down && a.left == b.left && a.next == b.next;
+        && a.power_down == b.power_down && a.pending == b.pending && a.pending_bits == b.pending_bits && a.left == b.left && a.next == b.next;
 }
 
 /* ---- what is lent for output: A5 before the call, and A5 still where the call has nothing to write */
@@ -140,9 +140,17 @@ static bool waited(uint32_t microseconds)
     return a.number == 0;
 }
 
+/* a status write up to its end: on the F25L05PA it takes time */
+static bool status_written(uint8_t number, const char *byte)
+{
+    char frame[] = "01 00";
+    memcpy(frame + 3, byte, 2);
+    return silent(number == F25L008A ? "50" : "06") && silent(frame) && (number == F25L008A || waited(5000)) && status(byte);
+}
+
 static bool unprotected(void)
 {
-    return silent("50") && silent("01 00") && status("00");
+    return status_written(F25L008A, "00");
 }
 
 /* erased, and not protected */
@@ -204,7 +212,7 @@ static bool page_goes_round(void)
 
 static bool chip_erase_by_bp2(void)
 {
-    bool taken = fresh(F25L05PA, 0x00) && silent("06") && silent("01 10") && silent("06") && status("12");
+    bool taken = fresh(F25L05PA, 0x00) && status_written(F25L05PA, "10") && silent("06") && status("12");
     memset(expected, 0xFF, size);
     taken = taken && silent("C7") && status("13") && waited(1000000) && status("10");
     return taken && fresh(F25L008A, 0x00) && silent("50") && silent("01 10") && silent("06") && silent("C7") && status("12");
@@ -477,7 +485,7 @@ static bool power(void)
     if (!(erased(F25L008A) && unprotected() && silent("06"))) return false;
     a = zeradok_power_up(chip);
     if (a.number != 0 || !same_state(a.state, zeradok_new(F25L008A).state)) return false;
-    if (!(erased(F25L05PA) && silent("06") && silent("01 A4") && silent("B9"))) return false;
+    if (!(erased(F25L05PA) && status_written(F25L05PA, "A4") && silent("B9"))) return false;
     a = zeradok_power_up(chip);
     chip = a.state;
     return a.number == 0 && status("A4");
@@ -595,7 +603,7 @@ static bool drives_nothing_else(uint8_t number)
         input[0] = (uint8_t)opcode;
         if (memchr(six, opcode, sizeof six) == NULL) good = good && runs(input, 8) && gave_silence(8);
     }
-    good = good && silent(number == F25L008A ? "50" : "06") && silent("01 00") && silent("06") && silent("04")
+    good = good && status_written(number, "00") && silent("06") && silent("04")
         && silent("06") && becomes(0, 0x00) && silent("02 00 00 00 00") && waited(1500)
         && silent("06") && becomes(0, 0xFF) && silent("20 00 00 00") && waited(90000)
         && silent("06") && silent("D8 00 00 00") && waited(1000000) && silent("06") && silent("60") && waited(8000000)
@@ -609,7 +617,7 @@ static bool drives_nothing_ignored(uint8_t number)
 {
     const char *arm = number == F25L008A ? "50" : "06";
     bool good = blank(number) && silent("06 00") && silent("20 00 00") && silent("02 00 00 00") && silent("02 00 00 00 00") && silent("20 00 00 00")
-        && silent("C7") && silent("01 9C") && status("00") && silent(arm) && silent("01 9C") && status("9C")
+        && silent("C7") && silent("01 9C") && status("00") && status_written(number, "9C")
         && silent("06") && silent("02 00 00 00 00") && silent("20 00 00 00") && silent("C7") && status("9E");
     wp_high = false;
     return good && silent(arm) && silent("01 00") && status("9E");
@@ -737,13 +745,21 @@ static bool marks_by(const uint8_t *script, size_t sector, const uint32_t *scene
         && marks(sector, scenes, count, answer.length, answer) && (script == NULL || memcmp(buffer, script, answer.length) == 0);
 }
 
+/* the plan with a status write in front and one behind; on an F25L05PA each has its wait */
+static zeradok_planned unprotecting(uint8_t number, zeradok_planned p)
+{
+    p.length += 22;
+    p.frames += 4;
+    if (number == F25L05PA) p.length += 12, p.microseconds += 10000;
+    return p;
+}
+
 /* the plan of one word, or of one page with so many bytes */
 static zeradok_planned one_write(uint8_t number, uint32_t bytes, bool unprotects)
 {
     zeradok_planned p = {.length = 19 + bytes, .frames = 2, .microseconds = 1500};
     if (number == F25L008A) p = (zeradok_planned){.length = 26, .frames = 3, .microseconds = 7};
-    if (unprotects) p.length += 22, p.frames += 4;
-    return p;
+    return unprotects ? unprotecting(number, p) : p;
 }
 
 /* runs the plan made last; then nothing is left to mark */
@@ -872,7 +888,7 @@ static bool book_not_at_rest(void)
 static bool book_protected(uint8_t number)
 {
     const zeradok_planned p = one_write(number, 2, true);
-    bool good = erased(number) && silent(number == F25L008A ? "50" : "06") && silent("01 9C") && status("9C");
+    bool good = erased(number) && status_written(number, "9C");
     wp_high = false;
     good = good && mark_refused(9, 0, two_scenes, 3, 64) && mark_refused(9, 0, two_scenes, 3, 0) && no_such(0, SCENES)
         && marks(0, NULL, 0, 0, (zeradok_planned){0});
@@ -1196,17 +1212,10 @@ static zeradok_planned writes(uint8_t number, uint32_t words, uint32_t runs_of_w
     return (zeradok_planned){.length = 13 * (words + runs_of_words), .frames = words + 2 * runs_of_words, .microseconds = 7 * words};
 }
 
-static zeradok_planned unprotecting(zeradok_planned p)
-{
-    p.length += 22;
-    p.frames += 4;
-    return p;
-}
-
 /* on an F25L008A, which is protected after a cut */
 static zeradok_planned after_a_cut(uint8_t number, zeradok_planned p)
 {
-    return number == F25L008A ? unprotecting(p) : p;
+    return number == F25L008A ? unprotecting(number, p) : p;
 }
 
 /* each script is the one written out; behind the first the name isn't read */
@@ -1405,9 +1414,8 @@ static bool names_not_at_rest(uint8_t number)
 /* BPL 1 and all protected: with WP low it is a 9, unless nothing has to change; with WP high each plan unprotects and protects again */
 static bool names_protected(uint8_t number)
 {
-    const zeradok_planned p = unprotecting(writes(number, 1, 1, 2)), one = one_write(number, 1, true);
-    bool good = erased(number) && stands(NAMES, "4E 52 01 78") && stands(BOOK, "FE") && lists("01 79") && silent(number == F25L008A ? "50" : "06")
-        && silent("01 9C") && status("9C");
+    const zeradok_planned p = unprotecting(number, writes(number, 1, 1, 2)), one = one_write(number, 1, true);
+    bool good = erased(number) && stands(NAMES, "4E 52 01 78") && stands(BOOK, "FE") && lists("01 79") && status_written(number, "9C");
     wp_high = false;
     good = good && name_refused(9, NAMES, "y") && name_stands(NAMES, "x") && move_refused(9, BOOK, THIRD) && lists("01 78")
         && back_refused(9, NAMES, THIRD) && lists("") && backs_in(0, NAMES, THIRD, (zeradok_planned){0}, 1);
@@ -1661,7 +1669,7 @@ static bool names_unlisted(uint8_t number)
  * comes next, of two words on a chip that is protected now: 22 bytes more than the cut plan had are too few. */
 static bool names_room(void)
 {
-    const zeradok_planned rest = writes(F25L008A, 1, 1, 0), second = unprotecting(writes(F25L008A, 2, 1, 0));
+    const zeradok_planned rest = writes(F25L008A, 1, 1, 0), second = unprotecting(F25L008A, writes(F25L008A, 2, 1, 0));
     return blank(F25L008A) && stands(NAMES, "4E 52 02 78 79 FF FF 01") && name_plans(NAMES, "a", rest) && cut_at("FF FF", NAMES + 8, "61")
         && marks_name(NAMES, "a", 1, rest.length + 22, (zeradok_planned){.number = 10}) && name_plans(NAMES, "a", second)
         && will_be(NAMES + 5, "4E 52") && carried_out(second) && name_stands(NAMES, "a");
@@ -1741,6 +1749,400 @@ static bool either_slice(uint8_t number)
     return good && sent("05 00", "FF 02", "00 01");
 }
 
+/* ---- the F25L05PA's status write: a cycle of 5,000 microseconds, in which the old bits are seen and in force */
+
+enum { SETTABLE = 0xBC, LONG_MASK = 65537 }; /* BP, TB and BPL, bits 2 to 5 and 7; a mask's length that is 1 when it is cut to 16 bits */
+
+/* an F25L05PA at rest with these bits of its status */
+static zeradok_state resting(uint8_t bits)
+{
+    zeradok_state state = zeradok_new(F25L05PA).state;
+    state.bp = bits >> 2 & 7;
+    state.tb = bits & 0x20;
+    state.bpl = bits & 0x80;
+    return state;
+}
+
+/* the same while a status write runs that sets these others */
+static zeradok_state writing(uint8_t old, uint8_t bits, uint32_t left)
+{
+    zeradok_state state = resting(old);
+    state.wel = state.pending = true;
+    state.pending_bits = bits;
+    state.left = left;
+    return state;
+}
+
+static bool chip_is(zeradok_state state)
+{
+    return same_state(chip, state);
+}
+
+static bool status_is(uint8_t byte)
+{
+    char hex[3];
+    snprintf(hex, sizeof hex, "%02X", byte);
+    return status(hex);
+}
+
+static bool powers_up(void)
+{
+    zeradok_answer a = zeradok_power_up(chip);
+    chip = a.state;
+    return a.number == 0;
+}
+
+/* the last microsecond alone ends it; a longer wait does no more */
+static bool status_write_time(void)
+{
+    const uint32_t enough[] = {5000, 5001, UINT32_MAX};
+    bool good = erased(F25L05PA) && silent("06") && silent("01 1C") && chip_is(writing(0x00, 0x1C, 5000)) && status("03") && waited(0)
+        && chip_is(writing(0x00, 0x1C, 5000)) && waited(4999) && chip_is(writing(0x00, 0x1C, 1)) && status("03") && waited(1)
+        && chip_is(resting(0x1C)) && status("1C");
+    for (size_t i = 0; i < 3; i++)
+        good = good && erased(F25L05PA) && silent("06") && silent("01 1C") && waited(enough[i]) && chip_is(resting(0x1C)) && status("1C");
+    return good;
+}
+
+/* at once, also armed by 06, and nothing is pending */
+static bool status_write_at_once(void)
+{
+    zeradok_state open = zeradok_new(F25L008A).state, locked = open;
+    open.bp = 0;
+    locked.bp = 1;
+    locked.bpl = true;
+    return erased(F25L008A) && silent("50") && silent("01 00") && chip_is(open) && status("00") && silent("06") && silent("01 E7") && chip_is(locked)
+        && status("84") && waited(5000) && chip_is(locked);
+}
+
+/* every byte, from a chip whose bits are all the other way round: seen are the old ones, then the new */
+static bool status_write_bits(void)
+{
+    bool good = erased(F25L05PA);
+    for (unsigned byte = 0; byte < 256; byte++) {
+        const uint8_t frame[] = {0x01, (uint8_t)byte}, bits = byte & SETTABLE, old = bits ^ SETTABLE;
+        chip = resting(old);
+        good = good && silent("06") && runs(frame, 2) && gave_silence(2) && chip_is(writing(old, bits, 5000)) && status_is(old | 0x03)
+            && waited(5000) && chip_is(resting(bits)) && status_is(bits);
+    }
+    return good;
+}
+
+/* the old bits stay, in the last microsecond too, and whether all are pending or none */
+static bool status_write_power_up(void)
+{
+    bool good = erased(F25L05PA) && silent("06") && silent("01 1C") && powers_up() && chip_is(resting(0x00)) && status("00")
+        && silent("06") && silent("01 1C") && waited(4999) && powers_up() && chip_is(resting(0x00)) && status("00")
+        && silent("06") && silent("01 1C") && waited(5000) && powers_up() && chip_is(resting(0x1C)) && status("1C");
+    chip = resting(0xA4);
+    return good && silent("06") && silent("01 00") && powers_up() && chip_is(resting(0xA4)) && silent("06") && silent("01 BC") && powers_up()
+        && chip_is(resting(0xA4)) && status("A4");
+}
+
+/* each opcode but 05, alone and in frames as long as one that is taken has */
+static bool status_write_ignores(void)
+{
+    static const size_t lengths[] = {1, 2, 4, 5, 6};
+    bool good = erased(F25L05PA) && silent("06") && silent("01 1C");
+    memset(input, 0x00, sizeof input);
+    for (int opcode = 0; opcode < 256; opcode++) {
+        input[0] = (uint8_t)opcode;
+        for (size_t i = 0; i < 5 && opcode != 0x05; i++)
+            good = good && runs(input, lengths[i]) && gave_silence(lengths[i]) && chip_is(writing(0x00, 0x1C, 5000));
+    }
+    return good && sent("05 00 00", "FF 03 03", "00 01 01") && chip_is(writing(0x00, 0x1C, 5000)) && waited(5000) && chip_is(resting(0x1C));
+}
+
+/* from its end on the new bits protect, let through and lock, and not before: a 06 that comes too early is lost */
+static bool status_write_in_force(void)
+{
+    bool good = erased(F25L05PA) && status_written(F25L05PA, "1C") && silent("06") && silent("01 00") && silent("06") && silent("02 00 00 00 00")
+        && waited(4999) && silent("06") && silent("02 00 00 00 00") && waited(1) && silent("02 00 00 00 00") && status("00")
+        && silent("06") && becomes(0, 0x00) && silent("02 00 00 00 00") && waited(1500)
+        && status_written(F25L05PA, "04") && silent("06") && silent("02 00 00 01 00") && status("06");
+    wp_high = false;
+    return good && status_written(F25L05PA, "80") && silent("06") && silent("01 00") && status("82");
+}
+
+static bool status_write_scripts(void)
+{
+    return erased(F25L05PA)
+        && script_sent("5A 46 00 01 06  5A 46 00 02 01 1C  5A 46 00 02 05 00  5A 57 00 00 13 87  5A 46 00 02 05 00  5A 57 00 00 00 01"
+                       "  5A 46 00 02 05 00",
+                       "FF  FF FF  FF 03  FF 03  FF 1C", "00  00 00  00 01  00 01  00 01", 5, 5000)
+        && chip_is(resting(0x1C))
+        /* without a wait all behind the 01 is ignored, and the script leaves it pending; the next one goes on from there */
+        && script_sent("5A 46 00 01 06  5A 46 00 02 01 00  5A 46 00 01 06  5A 46 00 05 02 00 00 00 FE", "FF  FF FF  FF  FF FF FF FF FF",
+                       "00  00 00  00  00 00 00 00 00", 4, 0)
+        && chip_is(writing(0x1C, 0x00, 5000)) && becomes(0, 0xFE)
+        && script_sent("5A 57 00 00 13 88  5A 46 00 01 06  5A 46 00 05 02 00 00 00 FE  5A 46 00 02 05 00", "FF  FF FF FF FF FF  FF 03",
+                       "00  00 00 00 00 00  00 01", 3, 5000);
+}
+
+/* ---- the power goes in a status write */
+
+/* every byte, cut with 00: the old bits, and with FF: the new */
+static bool status_write_cut(void)
+{
+    const uint8_t none = 0x00, all = 0xFF;
+    bool good = erased(F25L05PA);
+    for (unsigned byte = 0; byte < 256; byte++) {
+        const uint8_t frame[] = {0x01, (uint8_t)byte}, bits = byte & SETTABLE, old = bits ^ SETTABLE;
+        chip = resting(old);
+        good = good && silent("06") && cut_in(frame, 2, &none, 1) && gave_silence(2) && chip_is(resting(old)) && status_is(old)
+            && silent("06") && cut_in(frame, 2, &all, 1) && gave_silence(2) && chip_is(resting(bits)) && status_is(bits);
+    }
+    return good;
+}
+
+/* refusal 5, and nothing is changed */
+static bool mask_refused(const char *hex, const uint8_t *mask, size_t mask_length)
+{
+    const size_t length = bytes_of(hex, input);
+    const zeradok_state before = chip;
+    fill_slices();
+    return zeradok_cut_frame(&chip, wp_high, array, size, input, length, output, length, driven, length, mask, mask_length) == 5
+        && chip_is(before) && gave_nothing() && memcmp(array, expected, size) == 0;
+}
+
+/* any value but 00 and FF, and any length but 1, whatever the bytes; 4 comes before it */
+static bool status_write_masks(void)
+{
+    static const size_t lengths[] = {0, 2, 3, 256, 257, 65536, LONG_MASK};
+    static uint8_t none[LONG_MASK], all[LONG_MASK];
+    memset(all, 0xFF, sizeof all);
+    bool good = erased(F25L05PA) && silent("06") && mask_refused("01 1C", NULL, 0);
+    for (unsigned value = 0x01; value < 0xFF; value++) good = good && mask_refused("01 1C", (const uint8_t[]){(uint8_t)value}, 1);
+    for (size_t i = 0; i < sizeof lengths / sizeof *lengths; i++)
+        good = good && mask_refused("01 1C", none, lengths[i]) && mask_refused("01 1C", all, lengths[i]);
+    return good && mask_refused("01 1C", (const uint8_t[]){0x00, 0xFF}, 2) && mask_refused("01 1C", (const uint8_t[]){0xFF, 0x00}, 2)
+        && refused(4, "01 1C", size, 2, 3, 2) && refused(4, "01 1C", size, 3, 2, 0) && cut_in(input, 2, all, 1) && chip_is(resting(0x1C));
+}
+
+/* each mask of a byte is a 5; without one the chip is silent, powers up and shows this status */
+static bool has_no_mask(const char *frame, const char *after)
+{
+    const uint8_t bytes[] = {0x00, 0xFF, 0x01};
+    bool good = mask_refused(frame, bytes, 1) && mask_refused(frame, bytes + 1, 1) && mask_refused(frame, bytes + 2, 1)
+        && mask_refused(frame, bytes, 2);
+    const size_t count = bytes_of(frame, input);
+    return good && cut_in(input, count, NULL, 0) && gave_silence(count) && status(after);
+}
+
+/* not armed, disarmed by 05, too short, too long, busy, locked; the F25L008A is protected after each */
+static bool status_write_ignored_cut(uint8_t number)
+{
+    const char *arm = number == F25L008A ? "50" : "06", *after = number == F25L008A ? "1C" : "00";
+    bool good = erased(number) && has_no_mask("01 A4", after) && silent(arm) && sent("05", "FF", "00") && has_no_mask("01 A4", after)
+        && silent(arm) && has_no_mask("01", after) && silent(arm) && has_no_mask("01 A4 00", after)
+        && blank(number) && silent("06") && becomes(0, 0x00) && silent("02 00 00 00 00") && has_no_mask("01 A4", after)
+        && status_written(number, "80");
+    wp_high = false;
+    return good && silent(arm) && has_no_mask("01 00", number == F25L008A ? "1C" : "80");
+}
+
+/* in power-down; and while a status write runs another, and a 05, which shows the old bits, as does the chip behind the cut */
+static bool status_write_running_cut(void)
+{
+    const uint8_t all = 0xFF;
+    return erased(F25L05PA) && status_written(F25L05PA, "A4") && silent("B9") && has_no_mask("01 00", "A4")
+        && silent("06") && silent("01 18") && has_no_mask("01 00", "A4") && silent("06") && silent("01 18") && mask_refused("05 00", &all, 1)
+        && cut_sent("05 00", "FF A7", "00 01") && chip_is(resting(0xA4)) && status("A4");
+}
+
+/* taken, with 50 and with 06, and ignored in AAI */
+static bool status_write_cut_at_once(void)
+{
+    return erased(F25L008A) && silent("50") && has_no_mask("01 00", "1C") && silent("06") && has_no_mask("01 80", "1C")
+        && chip_is(zeradok_new(F25L008A).state) && unprotected() && silent("06") && becomes(0, 0x12) && becomes(1, 0x34)
+        && silent("AD 00 00 00 12 34") && waited(7) && has_no_mask("01 80", "1C");
+}
+
+/* ---- states with a status write pending: which are sound */
+
+/* every call that takes a state refuses this one and gives it back */
+static bool no_such_state(zeradok_state state)
+{
+    chip = state;
+    const zeradok_answer up = zeradok_power_up(chip), later = zeradok_wait(chip, 5000);
+    return up.number == 1 && chip_is(up.state) && later.number == 1 && chip_is(later.state) && refused(1, "05 00", size, 2, 2, 0)
+        && run_refused(1, 0, listing, sizeof listing, sizeof listed, sizeof listed) && plan_refused(1, 0, NULL, 0, 0) && book_refused(1)
+        && names_refused(1, NAMES);
+}
+
+/* it comes back from a wait of nothing, and its bits are in force when it has ended */
+static bool ends(zeradok_state state)
+{
+    const uint8_t bits = state.pending_bits;
+    chip = state;
+    return waited(0) && chip_is(state) && status_is((uint8_t)(state.bp << 2 | state.tb << 5 | state.bpl << 7 | 0x03)) && waited(state.left)
+        && chip_is(resting(bits));
+}
+
+/* pending at rest, bits without pending, and bits that no status write sets */
+static bool pending_bits_unsound(void)
+{
+    bool good = erased(F25L05PA) && lists("");
+    zeradok_state at_rest = writing(0x00, 0x1C, 0), none_at_rest = writing(0x00, 0x00, 0);
+    good = good && no_such_state(at_rest) && no_such_state(none_at_rest);
+    at_rest.wel = none_at_rest.wel = false;
+    good = good && no_such_state(at_rest) && no_such_state(none_at_rest);
+    for (unsigned bits = 0; bits < 256; bits++) {
+        zeradok_state running = writing(0xA4, (uint8_t)bits, 5000), other = running, rest = resting(0xA4);
+        other.pending = false; /* busy with something else */
+        rest.pending_bits = (uint8_t)bits;
+        good = good && ((bits & ~SETTABLE) == 0 ? ends(running) : no_such_state(running));
+        if (bits != 0) good = good && no_such_state(other) && no_such_state(rest);
+    }
+    return good;
+}
+
+/* as for every busy chip: at most 1,000,000 microseconds left, WEL 1, not armed, not in power-down */
+static bool pending_is_busy(void)
+{
+    zeradok_state disabled = writing(0x00, 0x1C, 5000), armed = disabled, asleep = disabled;
+    disabled.wel = false;
+    armed.armed = true;
+    asleep.power_down = true;
+    return erased(F25L05PA) && lists("") && ends(writing(0x00, 0x1C, 1)) && ends(writing(0xBC, 0x00, 5000)) && ends(writing(0x1C, 0xBC, 5001))
+        && ends(writing(0x00, 0x1C, 1000000)) && no_such_state(writing(0x00, 0x1C, 1000001)) && no_such_state(disabled) && no_such_state(armed)
+        && no_such_state(asleep);
+}
+
+/* not while it is busy, in AAI or at rest, and no bits without it */
+static bool never_pending(void)
+{
+    bool good = blank(F25L008A) && lists("");
+    const zeradok_state open = chip;
+    zeradok_state busy = open;
+    busy.wel = true;
+    busy.left = 7;
+    zeradok_state in_aai = busy;
+    in_aai.aai = true;
+    in_aai.next = 2;
+    const zeradok_state states[] = {open, busy, in_aai};
+    for (size_t i = 0; i < 3; i++) {
+        zeradok_state both = states[i], bits = both, pending = both;
+        both.pending = pending.pending = true;
+        both.pending_bits = bits.pending_bits = 0x1C;
+        good = good && no_such_state(both) && no_such_state(bits) && no_such_state(pending);
+        chip = states[i];
+        good = good && waited(0);
+    }
+    return good;
+}
+
+/* ---- plans of the F25L05PA that unprotect it: each status write has its wait */
+
+static const uint8_t protected_plan[] = {
+    0x5A, 0x46, 0x00, 0x01, 0x06,
+    0x5A, 0x46, 0x00, 0x02, 0x01, 0x00,
+    0x5A, 0x57, 0x00, 0x00, 0x13, 0x88,
+    0x5A, 0x46, 0x00, 0x01, 0x06,
+    0x5A, 0x46, 0x00, 0x05, 0x02, 0x00, 0x12, 0x34, 0xFE,
+    0x5A, 0x57, 0x00, 0x00, 0x05, 0xDC,
+    0x5A, 0x46, 0x00, 0x01, 0x06,
+    0x5A, 0x46, 0x00, 0x02, 0x01, 0x1C,
+    0x5A, 0x57, 0x00, 0x00, 0x13, 0x88,
+};
+enum { FIRST_01 = 5, FIRST_WAIT = 11, PROGRAM = 22, PAGE_WAIT = 31, LAST_01 = 42, LAST_WAIT = 48, FRONT = 4 }; /* of its records; a frame's front */
+
+/* FE at 1234, in the room of the script written out */
+static bool plans_protected(void)
+{
+    const uint8_t wanted = 0xFE;
+    return plan_refused(10, 0x1234, &wanted, 1, 53)
+        && plans(0x1234, &wanted, 1, 54, (zeradok_planned){.length = 54, .frames = 6, .microseconds = 11500});
+}
+
+/* nothing is left to do */
+static bool plan_done(void)
+{
+    const uint8_t wanted = 0xFE;
+    return becomes(0x1234, 0xFE) && plans(0x1234, &wanted, 1, 0, (zeradok_planned){0});
+}
+
+/* the state is the given one again; TB and BPL go along in both status writes */
+static bool planned_protected(void)
+{
+    const zeradok_planned p = one_write(F25L05PA, 1, true);
+    bool good = erased(F25L05PA) && status_written(F25L05PA, "1C") && plans_protected() && memcmp(buffer, protected_plan, 54) == 0
+        && becomes(0x1234, 0xFE) && carried_out(p) && chip_is(resting(0x1C)) && plan_done();
+    uint8_t with_tb_and_bpl[54];
+    memcpy(with_tb_and_bpl, protected_plan, 54);
+    with_tb_and_bpl[FIRST_WAIT - 1] = 0xA0;
+    with_tb_and_bpl[LAST_WAIT - 1] = 0xA8;
+    return good && erased(F25L05PA) && status_written(F25L05PA, "A8") && plans_protected() && memcmp(buffer, with_tb_and_bpl, 54) == 0
+        && becomes(0x1234, 0xFE) && carried_out(p) && chip_is(resting(0xA8)) && plan_done();
+}
+
+/* 4,096 bytes in 17 pages, all of which change */
+static bool planned_worst(void)
+{
+    static const uint8_t wanted[4096];
+    const zeradok_planned p = {.length = 4453, .frames = 38, .microseconds = ZERADOK_WORST_MICROSECONDS};
+    bool good = erased(F25L05PA) && status_written(F25L05PA, "1C") && plan_refused(10, 0x1001, wanted, 4096, 4452)
+        && plans(0x1001, wanted, 4096, 4453, p);
+    memset(expected + 0x1001, 0x00, 4096);
+    return good && carried_out(p) && chip_is(resting(0x1C)) && plans(0x1001, wanted, 4096, 0, (zeradok_planned){0});
+}
+
+/* a protected chip has run the plan up to this record, and so many microseconds more */
+static bool plan_run_to(size_t record, uint32_t microseconds)
+{
+    const zeradok_surveyed s = zeradok_survey(protected_plan, record);
+    return erased(F25L05PA) && status_written(F25L05PA, "1C") && (record <= PROGRAM || becomes(0x1234, 0xFE))
+        && runs_script(protected_plan, record, s.output, s.frames, s.microseconds) && gave_silence(s.output) && waited(microseconds);
+}
+
+/* Powered up the chip has these bits. Planned again in 22 bytes more room the script is as long as this, no longer than the first one, and finishes;
+ * where the byte is written already it is empty. */
+static bool plan_goes_on(uint8_t bits, uint32_t length)
+{
+    const uint8_t wanted = 0xFE;
+    const zeradok_planned p = length == 0 ? (zeradok_planned){0} : one_write(F25L05PA, 1, length == 54);
+    return chip_is(resting(bits)) && length == p.length && plans(0x1234, &wanted, 1, 54 + 22, p) && becomes(0x1234, 0xFE) && carried_out(p)
+        && chip_is(resting(bits)) && plan_done();
+}
+
+static bool cut_in_wait(size_t record, uint32_t microseconds, uint8_t bits, uint32_t length)
+{
+    return plan_run_to(record, microseconds) && powers_up() && plan_goes_on(bits, length);
+}
+
+/* at its start, in its last microsecond and at its end: a status write's bits come with the end */
+static bool plan_cut_in_waits(void)
+{
+    return cut_in_wait(FIRST_WAIT, 0, 0x1C, 54) && cut_in_wait(FIRST_WAIT, 4999, 0x1C, 54) && cut_in_wait(FIRST_WAIT, 5000, 0x00, 20)
+        && cut_in_wait(PAGE_WAIT, 0, 0x00, 0) && cut_in_wait(PAGE_WAIT, 1499, 0x00, 0) && cut_in_wait(PAGE_WAIT, 1500, 0x00, 0)
+        && cut_in_wait(LAST_WAIT, 0, 0x00, 0) && cut_in_wait(LAST_WAIT, 4999, 0x00, 0) && cut_in_wait(LAST_WAIT, 5000, 0x1C, 0);
+}
+
+static bool cut_in_frame(size_t record, size_t count, uint8_t mask, uint8_t bits, uint32_t length)
+{
+    return plan_run_to(record, 0) && cut_in(protected_plan + record + FRONT, count, &mask, 1) && gave_silence(count) && plan_goes_on(bits, length);
+}
+
+/* both status writes, and the page between them, of which no bit is through */
+static bool plan_cut_in_frames(void)
+{
+    return cut_in_frame(FIRST_01, 2, 0x00, 0x1C, 54) && cut_in_frame(FIRST_01, 2, 0xFF, 0x00, 20) && cut_in_frame(PROGRAM, 5, 0x00, 0x00, 20)
+        && cut_in_frame(LAST_01, 2, 0x00, 0x00, 0) && cut_in_frame(LAST_01, 2, 0xFF, 0x1C, 0);
+}
+
+/* the questions are answered, and every plan is a 7 */
+static bool only_asked_while_pending(void)
+{
+    const uint8_t wanted = 0xFE;
+    return only_questions() && only_asked() && plan_refused(7, 0x1234, &wanted, 1, 64) && plan_refused(7, 0x1234, NULL, 0, 0);
+}
+
+static bool pending_not_at_rest(void)
+{
+    return erased(F25L05PA) && stands(0, "00") && stands(NAMES, "4E 52 01 78") && stands(BOOK, "FE") && silent("06") && silent("01 1C")
+        && only_asked_while_pending() && waited(4999) && only_asked_while_pending() && waited(1) && plans_protected();
+}
+
 static const struct {
     const char *name;
     bool (*holds)(void);
@@ -1788,6 +2190,25 @@ static const struct {
     {"salvage: refusal 2, before 10", salvage_refusals},
     {"names: the second plan in the room of a cut one", names_room},
     {"refusals 1 to 5 change nothing", refusals},
+    {"05PA: a status write, 03 for 5,000 microseconds, then 1C", status_write_time},
+    {"008A: a status write at once", status_write_at_once},
+    {"status write: every byte, and which bits it sets", status_write_bits},
+    {"status write: power-up while it runs", status_write_power_up},
+    {"status write: while it runs 05 alone", status_write_ignores},
+    {"status write: the new bits in force from its end on", status_write_in_force},
+    {"status write: in scripts", status_write_scripts},
+    {"status write: every byte cut, 00 the old bits, FF the new", status_write_cut},
+    {"status write: refusal 5, any other mask", status_write_masks},
+    {"status write: running, and a cut in another or in 05", status_write_running_cut},
+    {"008A: a cut status write has no mask", status_write_cut_at_once},
+    {"pending: at rest, without it, and bits that it never sets", pending_bits_unsound},
+    {"pending: sound as every busy state is", pending_is_busy},
+    {"008A: never pending", never_pending},
+    {"pending: questions, and refusal 7", pending_not_at_rest},
+    {"05PA: plan of a protected byte, and its run", planned_protected},
+    {"05PA: the plan of the worst case, and its run", planned_worst},
+    {"05PA: the plan of a protected byte cut in each wait", plan_cut_in_waits},
+    {"05PA: the plan of a protected byte cut in each status write", plan_cut_in_frames},
 };
 
 /* on each chip */
@@ -1805,6 +2226,7 @@ static const struct {
     {"driven: nothing in frames that are ignored", drives_nothing_ignored},
     {"driven in frames that are cut", drives_cut},
     {"refusal 4 by either slice", either_slice},
+    {"status write: a cut one that is ignored has no mask", status_write_ignored_cut},
     {"book: scenes 0, 9 and 9", book_first},
     {"book: scene 4,095 in the last sector", book_last},
     {"book: every scene, by a list of 8,192", book_whole},

@@ -17,7 +17,7 @@ pub fn data() -> Chip
         device_id: 0x05,
         block_time: 750000,
         chip_time: 1000000,
-        status_time: 0,
+        status_time: 5000,
         aai: false,
         word_plans: false,
         ewsr: false,

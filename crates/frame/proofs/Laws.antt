@@ -1,6 +1,7 @@
 pub mod Inside
 pub mod Supplied
 pub mod Line
+pub mod Cut
 pub mod Accepted
 pub mod Call
 pub mod Ran

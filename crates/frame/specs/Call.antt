@@ -9,9 +9,11 @@ use Rattle.common.specs.Limits.{longestFrame}
 use Rattle.common.specs.Refusals.{stateNotSound, wrongArray, wrongFrame, wrongOutput, wrongMask, firstOf, accepted}
 use Rattle.state.specs.State.{dataOf}
 use Rattle.state.specs.Soundness.{isSound, Sound}
+use Rattle.command.specs.Command.{commandOf}
 use Rattle.frame.specs.Device.{Device}
 use Rattle.frame.specs.Line.{Line, isNotLong, Long}
-use Rattle.frame.specs.Ran.{ranDevice, shownLine, maskWanted, tornDevice}
+use Rattle.frame.specs.Cut.{takesMask, Masked}
+use Rattle.frame.specs.Ran.{ranDevice, shownLine, tornDevice}
 
 -- ---- run a frame: the level of WP, the frame, the chip and the lent line
 
@@ -49,7 +51,7 @@ pub record FrameRun (wp : Bool) (f : List ℕ) (d : Device) (line : Line) (numbe
 -- ---- run an interrupted frame: with a mask
 
 abbrev pub maskRefusals : Bool → List ℕ → List ℕ → Device → List (ℕ × Bool)
-maskRefusals wp f mask d = (wrongMask, not (eqb (length mask) (maskWanted wp f d))) ∷ []
+maskRefusals wp f mask d = (wrongMask, not (takesMask (commandOf (d .state) wp f) mask)) ∷ []
 
 -- the frame's own, then the mask's
 abbrev pub cutRefusals : Bool → List ℕ → List ℕ → Device → Line → List (ℕ × Bool)
@@ -60,7 +62,7 @@ cutNumber wp f mask d line = firstOf (cutRefusals wp f mask d line)
 
 pub record CutAccepted (wp : Bool) (f mask : List ℕ) (d : Device) (line : Line) : Type 0 where
   pub whole : Accepted wp f d line
-  pub masked : length mask ≡ maskWanted wp f d
+  pub masked : Masked (commandOf (d .state) wp f) mask
 
 unfoldable pub cutDevice : Bool → List ℕ → List ℕ → Device → Line → Device
 cutDevice wp f mask d line = accepted (cutNumber wp f mask d line) (tornDevice wp f mask d) d

@@ -11,11 +11,12 @@ use Rattle.command.specs.Command.{commandOf}
 use Rattle.registers.specs.Registers.{stateAfter}
 use Rattle.output.specs.Output.{memory, shownAt}
 use Rattle.effect.specs.declared.Effect.{Effect}
-use Rattle.effect.specs.Effect.{changed, maskLength}
+use Rattle.effect.specs.Effect.{changed}
 use Rattle.effect.specs.Cut.{cut}
 use Rattle.frame.specs.Device.{Device, device}
 use Rattle.frame.specs.Line.{Line, showing}
 use Rattle.frame.specs.Effect.{effectOf}
+use Rattle.frame.specs.Cut.{maskBytes, stateCut}
 
 -- the frame's effect on the array, at a level of WP
 abbrev pub effectAt : State → Bool → List ℕ → Effect
@@ -40,13 +41,17 @@ pub record FrameDone (wp : Bool) (f : List ℕ) (d : Device) (after : Device) (l
 
 -- ---- the interrupted frame
 
--- how many bytes its mask has: "one byte for each array byte the frame programs or erases"
+-- how many bytes its mask has
 abbrev pub maskWanted : Bool → List ℕ → Device → ℕ
-maskWanted wp f d = maskLength (effectAt (d .state) wp f)
+maskWanted wp f d = maskBytes (commandOf (d .state) wp f)
+
+-- the registers that power-up finds
+abbrev pub cutAt : State → Bool → List ℕ → List ℕ → State
+cutAt s wp f mask = stateCut s (commandOf s wp f) mask
 
 -- "Then power-up."
 unfoldable pub tornDevice : Bool → List ℕ → List ℕ → Device → Device
-tornDevice wp f mask d = device (poweredUp (stateAt (d .state) wp f)) (mapi (cut (effectAt (d .state) wp f) f mask) (d .array))
+tornDevice wp f mask d = device (poweredUp (cutAt (d .state) wp f mask)) (mapi (cut (effectAt (d .state) wp f) f mask) (d .array))
 
 pub record CutDone (wp : Bool) (f mask : List ℕ) (d : Device) (after : Device) (lineAfter : Line) : Type 0 where
   pub device-is : after ≡ tornDevice wp f mask d

@@ -1,4 +1,5 @@
 // A frame whose call is accepted: what is left to do behind the refusals. The calls run it, and a script's walk, which tests once for all its frames.
+use crate::cut::state_cut;
 use crate::effect_of;
 use state::State;
 ghost use Rattle.frame.specs.Device.{device};
@@ -40,5 +41,5 @@ pub fn run_accepted_cut(
     let c = command::understand::command_of(s, wp, input);
     output::emit(s, c, memory, output, driven);
     effect::change::cut_change(memory, effect_of(c), input, mask);
-    state::power::powered_up(registers::state_after(s, c))
+    state::power::powered_up(state_cut(s, c, mask))
 }

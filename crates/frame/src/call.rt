@@ -1,7 +1,7 @@
 // The calls: run a frame, run an interrupted frame. Each is its refusals, then the accepted frame.
 use crate::accepted::run_accepted;
 use crate::accepted::run_accepted_cut;
-use crate::effect_of;
+use crate::cut::takes_mask;
 use common::limits::LONGEST_FRAME;
 use common::refusals;
 use state::Answer;
@@ -63,13 +63,13 @@ fn cut_number(
         return number;
     }
     let c = command::understand::command_of(s, wp, input);
-    if mask.len() != effect::mask_length(effect_of(c)) {
+    if !takes_mask(c, mask) {
         return refusals::WRONG_MASK;
     }
     0
 }
 
-// Run a frame whose power is cut, with a mask byte for each array byte it programs or erases; then power-up.
+// Run a frame whose power is cut, with a mask byte for each array byte it programs or erases, or one for a status write that takes time; then power-up.
 pub fn run_cut_frame(
     s: State,
     wp: bool,

@@ -1,6 +1,7 @@
 // Frames on a chip and its array: run, and interrupted by a power cut.
 pub mod accepted;
 pub mod call;
+mod cut;
 
 use command::Command;
 use effect::Effect;

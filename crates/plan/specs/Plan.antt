@@ -2,9 +2,9 @@
 use mathlib.Core.Bool.{Bool, cond, _&&_}
 use mathlib.Core.List.{List, [], _∷_, _++_}
 use Prim.Native.Nat.{ℕ, _+_, _*_}
-use lib.Dec.{leb}
+use lib.Dec.{leb, ltb}
 use lib.ListN.{length}
-use Rattle.script.specs.Record.{Record, frame}
+use Rattle.script.specs.Record.{Record, frame, wait}
 use Rattle.state.specs.declared.State.{State}
 use Rattle.state.specs.State.{dataOf}
 use Rattle.state.specs.Protection.{firstProtected}
@@ -26,9 +26,14 @@ stepOneNeeded s array start wanted = anyOf (isProtectedChange (firstProtected s)
 unfoldable pub statusByte : ℕ → Bool → Bool → ℕ
 statusByte bp tb bpl = bp * 4 + bit tb 32 + bit bpl 128
 
+-- "Plans on the 05PA get a wait record after each 01" (02, A4): where a status write takes time
+abbrev pub settle : ℕ → List Record
+settle time = cond (ltb 0 time) (wait time ∷ []) []
+
 -- "50 (008A) or 06 (05PA), then 01 with BP" as given "and TB, BPL as they were"
 unfoldable pub statusRecords : State → ℕ → List Record
-statusRecords s bp = frame (cond (dataOf s .ewsr) 0x50 0x06 ∷ []) ∷ frame (0x01 ∷ statusByte bp (s .tb) (s .bpl) ∷ []) ∷ []
+statusRecords s bp =
+    frame (cond (dataOf s .ewsr) 0x50 0x06 ∷ []) ∷ frame (0x01 ∷ statusByte bp (s .tb) (s .bpl) ∷ []) ∷ settle (dataOf s .«status_time»)
 
 -- step 1 or 4, where it is needed
 abbrev pub statusStep : Bool → State → ℕ → List Record
@@ -45,6 +50,11 @@ planRecords s array start wanted =
     ++ (programStep (dataOf s .«word_plans») array start wanted  -- step 2 or 3
     ++ statusStep (stepOneNeeded s array start wanted) s (s .bp))  -- step 4: "after step 1, the same two frames with the old BP"
 
--- what a plan amounts to, from what its step 2 or 3 does: steps 1 and 4 are two frames each, of one and two bytes
-unfoldable pub withStatusSteps : Bool → Measure → Measure
-withStatusSteps needed m = cond needed (record { length = m .length + 22; frames = m .frames + 4; microseconds = m .microseconds }) m
+-- the bytes of two waits, behind status writes that take so much time
+abbrev pub waitBytes : ℕ → ℕ
+waitBytes time = cond (ltb 0 time) 12 0
+
+-- what a plan amounts to, from what its step 2 or 3 does: steps 1 and 4 are two frames each, of one and two bytes, and a wait where a status write takes time
+unfoldable pub withStatusSteps : ℕ → Bool → Measure → Measure
+withStatusSteps time needed m =
+    cond needed (record { length = m .length + 22 + waitBytes time; frames = m .frames + 4; microseconds = m .microseconds + 2 * time }) m

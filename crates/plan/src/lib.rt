@@ -72,8 +72,12 @@ fn measure_plan(s: State, needed: bool, array: &[u8], start: usize, wanted: &[u8
     requires { ⌜ needed ≡ stepOneNeeded s (now array) start (now wanted) ⌝ }
     ensures { λ r. ⌜ r ≡ measureOf (planRecords s (now (array .entry)) start (now (wanted .entry))) ⌝ }
 {
-    let words = chip::chip_of(s.chip).word_plans;
-    status::with_status_steps(needed, measure_program(words, array, start, wanted))
+    let chip = chip::chip_of(s.chip);
+    status::with_status_steps(
+        chip.status_time,
+        needed,
+        measure_program(chip.word_plans, array, start, wanted),
+    )
 }
 
 // Step 2 or 3, by the chip.

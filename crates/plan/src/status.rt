@@ -1,4 +1,4 @@
-// Steps 1 and 4: the protection bits taken away and put back, by two frames each.
+// Steps 1 and 4: the protection bits taken away and put back, by two frames each, and a wait where a status write takes time.
 use script::measure::Measure;
 use state::State;
 ghost use mathlib.Core.Path.{_≡_};
@@ -10,7 +10,7 @@ ghost use Rattle.state.specs.State.{dataOf};
 ghost use Rattle.region.specs.Region.{Inside};
 ghost use Rattle.common.specs.Buffer.{Put};
 ghost use Rattle.common.specs.Limits.{longestScript};
-ghost use Rattle.plan.specs.Plan.{stepOneNeeded, statusByte, statusStep, withStatusSteps};
+ghost use Rattle.plan.specs.Plan.{stepOneNeeded, statusByte, statusStep, waitBytes, withStatusSteps};
 
 // Whether a byte that changes is protected.
 pub fn step_one_needed(s: State, array: &[u8], start: usize, wanted: &[u8]) -> bool
@@ -55,19 +55,31 @@ pub fn put_status(needed: bool, s: State, bp: u8, buffer: &mut [u8], at: usize) 
         return at;
     }
     let armed = script::writer::put_frame(&[arming(s)], buffer, at);
-    script::writer::put_frame(&[0x01, status_byte(bp, s.tb, s.bpl)], buffer, armed)
+    let sent = script::writer::put_frame(&[0x01, status_byte(bp, s.tb, s.bpl)], buffer, armed);
+    let time = chip::chip_of(s.chip).status_time;
+    if time == 0 {
+        return sent;
+    }
+    script::writer::put_wait(time, buffer, sent)
 }
 
-// With steps 1 and 4 around it: two frames each, of one and two bytes.
-pub fn with_status_steps(needed: bool, m: Measure) -> Measure
-    requires { ⌜ (m .length ≤ longestScript) × (m .frames ≤ longestScript) ⌝ }
-    ensures { λ r. ⌜ r ≡ withStatusSteps needed m ⌝ }
+// The bytes of two waits, where a status write takes time.
+fn wait_bytes(time: u32) -> u32
+    ensures { λ r. ⌜ r ≡ waitBytes time ⌝ }
+{
+    if 0 < time { 12 } else { 0 }
+}
+
+// With steps 1 and 4 around it: two frames each, of one and two bytes, and a wait.
+pub fn with_status_steps(time: u32, needed: bool, m: Measure) -> Measure
+    requires { ⌜ (m .length ≤ longestScript) × (m .frames ≤ longestScript) × (m .microseconds ≤ longestScript) × (time ≤ 90000) ⌝ }
+    ensures { λ r. ⌜ r ≡ withStatusSteps time needed m ⌝ }
 {
     if needed {
         Measure {
-            length: m.length + 22,
+            length: m.length + 22 + wait_bytes(time),
             frames: m.frames + 4,
-            microseconds: m.microseconds,
+            microseconds: m.microseconds + 2 * time,
         }
     } else {
         m

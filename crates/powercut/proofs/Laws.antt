@@ -15,6 +15,5 @@ mod Completes
 mod Recovery
 pub mod PowerCut
 pub mod Calls
-mod Samples
 mod Witness
 mod Counterexamples

@@ -23,9 +23,15 @@ pub fn state_after(s: State, c: Command) -> State
             t.next = 0;
         }
         Command::Arm => t.armed = true,
-        Command::WriteStatus { byte, .. } => {
-            t = state::status::with_status_byte(t, byte);
-            t.wel = false;
+        Command::WriteStatus { byte, time } => {
+            if time == 0 {
+                t = state::status::with_status_byte(t, byte);
+                t.wel = false;
+            } else {
+                t.left = time;
+                t.pending = true;
+                t.pending_bits = state::status::writable_bits(byte);
+            }
         }
         Command::Erase { time, .. } => t.left = time,
         Command::ProgramByte { .. } => t.left = 7,

@@ -1,5 +1,6 @@
 pub mod Chips
 mod Tests
+mod StatusByte
 pub mod State
 pub mod Status
 pub mod Soundness
@@ -19,6 +20,7 @@ pub mod Switches
 pub mod Writes
 pub mod Ruled
 pub mod Interrupted
+pub mod StatusWrite
 pub mod Scripts
 pub mod Running
 pub mod Sent

@@ -7,9 +7,10 @@ use Prim.Native.Nat.{ℕ, _+_, _≤_, _<_}
 use lib.ListN.{length, getD}
 use Rattle.state.specs.declared.State.{State}
 use Rattle.state.specs.Protection.{firstProtected}
+use Rattle.command.specs.Command.{commandOf}
 use Rattle.frame.specs.Device.{Device}
 use Rattle.frame.specs.Line.{Line}
-use Rattle.frame.specs.Ran.{maskWanted}
+use Rattle.frame.specs.Cut.{Masked}
 use Rattle.script.specs.Record.{Record, AllFit, encode, outputLength}
 use Rattle.plan.specs.Plan.{planRecords}
 use Rattle.rules.specs.Chips.{bytesOf}
@@ -45,9 +46,9 @@ WrongOutput f line = BothLong line (length f) → ⊥
 abbrev pub WrongSum : List ℕ → Line → Type 0
 WrongSum script line = (records : List Record) → AllFit records → script ≡ encode records → BothLong line (outputLength records) → ⊥
 
--- 5: "mask length wrong"
+-- 5: "mask length wrong"; of a status write that takes time it "also covers that mask's length and any other value in it" (02, A4)
 abbrev pub WrongMask : Bool → List ℕ → List ℕ → Device → Type 0
-WrongMask wp f mask d = length mask ≡ maskWanted wp f d → ⊥
+WrongMask wp f mask d = Masked (commandOf (d .state) wp f) mask → ⊥
 
 -- 6: "over 4,096 wanted bytes, or start plus length above the size"
 abbrev pub WrongRegion : State → ℕ → List ℕ → Type 0

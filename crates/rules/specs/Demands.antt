@@ -2,7 +2,7 @@
 -- `demands-met` (proofs/Laws/Demands.antt) is a value of `Demands`, made of the theorems themselves: where one of them is lost or says less, that value
 -- no longer checks.
 use mathlib.Core.Path.{_≡_}
-use mathlib.Core.Bool.{Bool, true}
+use mathlib.Core.Bool.{Bool, true, false}
 use mathlib.Core.List.{List}
 use Prim.Native.Nat.{ℕ, _+_, _≤_, _<_}
 use lib.ListN.{length, take, drop}
@@ -63,6 +63,7 @@ use Rattle.rules.specs.Play.{PlayRules}
 use Rattle.rules.specs.Driver.{SentTo, CutAt}
 use Rattle.rules.specs.Unread.{UnreadRules}
 use Rattle.rules.specs.Driven.{DrivenRules}
+use Rattle.rules.specs.StatusWrite.{beginsCycle, StatusWriteRules}
 use Rattle.rules.specs.Worst.{WorstRules}
 use Rattle.rules.specs.Book.{BookRules}
 use Rattle.rules.specs.Salvage.{SalvageRules}
@@ -143,7 +144,8 @@ pub record StatesAsIn01 : Type 0 where
   pub protection : (s : State) (three : s .bp < 8) → Protection s three
   pub time : (s : State) (n : ℕ) (sound : isSound s ≡ true) → Time s n sound
   -- the words that the rules are said with: a setter sets its field and leaves the others
-  pub setters : (chip bp : ℕ) (tb bpl wel aai armed asleep : Bool) (left next : ℕ) → Setters chip bp tb bpl wel aai armed asleep left next
+  pub setters : (chip bp : ℕ) (tb bpl wel aai armed asleep pending : Bool) (bits left next : ℕ)
+      → Setters chip bp tb bpl wel aai armed asleep pending bits left next
 
 -- "For each frame, the output bytes, the chip's state and the whole array are those that the data sheets and the rules in 01 give": of an accepted one
 pub record FrameAsIn01 (wp : Bool) (f : List ℕ) (d : Device) (line : Line) : Type 0 where
@@ -153,10 +155,10 @@ pub record FrameAsIn01 (wp : Bool) (f : List ℕ) (d : Device) (line : Line) : T
   pub writes : Writes wp f d line
   -- no frame is left without a rule
   pub ruled : Ruled f d
-  -- and of an interrupted one, from what the whole one does
-  pub interrupted : (shows : ℕ → Shown) (registers : State) (change : Change) → Does wp f d line shows registers change
+  -- and of an interrupted one, from what the whole one does; that of a status write that takes time is in `status-write` below
+  pub interrupted : beginsCycle wp f d ≡ false → (shows : ℕ → Shown) (registers : State) (change : Change) → Does wp f d line shows registers change
       → (mask : List ℕ) → Bytes mask → cutNumber wp f mask d line ≡ 0 → Interrupted wp f mask d line shows registers change
-  pub wrong-mask : (shows : ℕ → Shown) (registers : State) (change : Change) → Does wp f d line shows registers change
+  pub wrong-mask : beginsCycle wp f d ≡ false → (shows : ℕ → Shown) (registers : State) (change : Change) → Does wp f d line shows registers change
       → (mask : List ℕ) → (length mask ≡ maskNeeded change d → ⊥) → cutNumber wp f mask d line ≡ 5
 
 -- "The planner's script is exactly the one 01 describes, and running it does just what its records say."
@@ -226,3 +228,5 @@ pub record Demands : Type 0 where
   pub flags : FlagsRules
   -- (A10) "Which bytes did the chip drive?"
   pub driven : DrivenRules
+  -- (A4) "The small chip's status write takes time."
+  pub status-write : StatusWriteRules

@@ -23,7 +23,7 @@ maskNeeded change d = countBelow (change .touched) (length (d .array))
 abbrev pub maskByte : Change → List ℕ → ℕ → ℕ
 maskByte change mask k = getD mask (countBelow (change .touched) k) 0
 
--- of an accepted one, where the whole frame shows, leaves and changes this
+-- of an accepted one, where the whole frame shows, leaves and changes this, and begins no status write that takes time (specs/StatusWrite.antt)
 pub record Interrupted (wp : Bool) (f mask : List ℕ) (d : Device) (line : Line) (shows : ℕ → Shown) (registers : State) (change : Change) : Type 0 where
   -- "As the frame, with a lent mask": both slices are the whole frame's
   pub line-is : cutLineAfter wp f mask d line ≡ bothSlices (length f) shows

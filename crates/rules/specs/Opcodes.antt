@@ -1,4 +1,4 @@
--- Opcode by opcode (01, "Frames": the table, and what stands below it). Each row is of an accepted frame with that opcode.
+-- Opcode by opcode (01, "Frames": the table, and what stands below it; 02, A4). Each row is of an accepted frame with that opcode.
 use mathlib.Core.Path.{_≡_}
 use mathlib.Core.Bool.{Bool, true, false, _&&_, not, cond}
 use mathlib.Core.List.{List, [], _∷_}
@@ -7,10 +7,9 @@ use Prim.Native.Nat.{ℕ, _+_, _-_, _*_, _/_, _%_}
 use lib.Bits.{bitAnd}
 use lib.Dec.{leb, ltb, eqb}
 use lib.ListN.{length, getD, drop}
-use Rattle.common.specs.Bits.{bitAt}
 use Rattle.common.specs.Lists.{within}
 use Rattle.state.specs.declared.State.{State}
-use Rattle.state.specs.State.{withLeft, withWel, withArmed, withPowerDown, withAai, withBits}
+use Rattle.state.specs.State.{withLeft, withWel, withArmed, withPowerDown, withAai, withBits, withPending}
 use Rattle.state.specs.Protection.{firstProtected}
 use Rattle.state.specs.Soundness.{isBusy}
 use Rattle.state.specs.Status.{statusOf}
@@ -21,6 +20,7 @@ use Rattle.effect.specs.Page.{layDown, blank}
 use Rattle.frame.specs.Device.{Device}
 use Rattle.frame.specs.Line.{Line}
 use Rattle.rules.specs.Chips.{byChip, bytesOf}
+use Rattle.rules.specs.Status.{levelIn, isSet, bitsIn}
 use Rattle.rules.specs.Frames.{opcode, Change, unchanged, Does, silent, disarmed, Ignored, isAmong, opcodes008A, opcodes05PA}
 
 -- ---- the words of the rows
@@ -82,12 +82,17 @@ busyFor time d = withLeft (disarmed d) time
 abbrev pub behindWord : ℕ → Device → State
 behindWord address d = withAai (busyFor 7 d) true (address + 2)
 
--- "It sets BP and BPL, and TB on the 05PA, from its byte, and clears WEL": bits 2 to 4, 7 and 5
+-- "Status write is taken only if armed, and not if BPL is 1 while WP is low": its byte behind it
+abbrev pub isStatusTaken : Bool → List ℕ → Device → Bool
+isStatusTaken wp f d = eqb (length f) 2 && (d .state .armed && not (d .state .bpl && not wp))
+
+-- on the 008A "it sets BP and BPL .. from its byte, and clears WEL"; "It takes no time."
 abbrev pub statusWritten : ℕ → Device → State
-statusWritten byte d =
-    withWel
-    (withBits (disarmed d) (bitAt byte 2 + bitAt byte 3 * 2 + bitAt byte 4 * 4) (byChip (d .state .chip) false (eqb (bitAt byte 5) 1)) (eqb (bitAt byte 7) 1))
-    false
+statusWritten byte d = withWel (withBits (disarmed d) (levelIn byte) false (isSet byte 7)) false
+
+-- "On the 05PA it is a write cycle: BUSY reads 1, WEL stays 1 until the end, the new bits are seen only then" (02, A4); 004's T_W: 5,000
+abbrev pub statusBegun : ℕ → Device → State
+statusBegun byte d = withPending (busyFor 5000 d) true (bitsIn byte)
 
 -- what a frame does if it is taken; "Frames with a wrong length are ignored", and so is one that lacks what it needs
 pub record TakenIf (wp : Bool) (f : List ℕ) (d : Device) (line : Line) (taken : Bool) (does : Type 0) : Type 0 where
@@ -126,10 +131,10 @@ pub record Switches (wp : Bool) (f : List ℕ) (d : Device) (line : Line) : Type
   -- 50, 1 byte: "armed (008A only)"
   pub enable-status : Resting (d .state) → d .state .chip ≡ 8 → opcode f ≡ 0x50
       → TakenIf wp f d line (eqb (length f) 1) (Does wp f d line silent (withArmed (d .state) true) unchanged)
-  -- 01, 2 bytes: "taken only if armed, and not if BPL is 1 while WP is low"; "It takes no time."
+  -- 01, 2 bytes: "status write"
   pub write-status : Resting (d .state) → opcode f ≡ 0x01
-      → TakenIf wp f d line (eqb (length f) 2 && (d .state .armed && not (d .state .bpl && not wp)))
-      (Does wp f d line silent (statusWritten (getD f 1 0) d) unchanged)
+      → TakenIf wp f d line (isStatusTaken wp f d)
+      (Does wp f d line silent (byChip (d .state .chip) (statusWritten (getD f 1 0) d) (statusBegun (getD f 1 0) d)) unchanged)
   -- B9, 1 byte: "power-down (05PA)"
   pub power-down : Resting (d .state) → d .state .chip ≡ 5 → opcode f ≡ 0xb9
       → TakenIf wp f d line (eqb (length f) 1) (Does wp f d line silent (withPowerDown (disarmed d) true) unchanged)

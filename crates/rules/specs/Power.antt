@@ -7,6 +7,7 @@ use Rattle.common.specs.Refusals.{Exactly}
 use Rattle.state.specs.declared.State.{State}
 use Rattle.state.specs.Soundness.{isSound}
 use Rattle.state.specs.Power.{newChip, powerUp}
+use Rattle.rules.specs.Status.{levelIn, isSet}
 
 -- "New 008A: BP 111, the rest 0."
 abbrev pub new008A : State
@@ -19,6 +20,8 @@ new008A = record {
   aai = false;
   armed = false;
   «power_down» = false;
+  pending = false;
+  «pending_bits» = 0;
   left = 0;
   next = 0;
 }
@@ -34,6 +37,8 @@ new05PA = record {
   aai = false;
   armed = false;
   «power_down» = false;
+  pending = false;
+  «pending_bits» = 0;
   left = 0;
   next = 0;
 }
@@ -49,6 +54,25 @@ kept05PA s = record {
   aai = false;
   armed = false;
   «power_down» = false;
+  pending = false;
+  «pending_bits» = 0;
+  left = 0;
+  next = 0;
+}
+
+-- the F25L05PA with the bits of a byte that was written, "the rest 0"
+abbrev pub written05PA : ℕ → State
+written05PA byte = record {
+  chip = 5;
+  bp = levelIn byte;
+  tb = isSet byte 5;
+  bpl = isSet byte 7;
+  wel = false;
+  aai = false;
+  armed = false;
+  «power_down» = false;
+  pending = false;
+  «pending_bits» = 0;
   left = 0;
   next = 0;
 }
@@ -66,5 +90,5 @@ pub record NewChips : Type 0 where
 pub record PowerUp (s : State) (sound : isSound s ≡ true) : Type 0 where
   -- "Power-up gives the 008A its new state;
   pub up-008a : s .chip ≡ 8 → powerUp s ≡ record { number = 0; state = new008A }
-  -- the 05PA keeps BP, TB and BPL (note 2), the rest 0."
+  -- the 05PA keeps BP, TB and BPL (note 2), the rest 0."; "Power-up with bits pending keeps the old." (02, A4)
   pub up-05pa : s .chip ≡ 5 → powerUp s ≡ record { number = 0; state = kept05PA s }

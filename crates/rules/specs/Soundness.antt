@@ -1,4 +1,4 @@
--- Soundness (01, "State"): "A state is sound when", and who keeps it.
+-- Soundness (01, "State"; 02, A4): "A state is sound when", and who keeps it.
 use mathlib.Core.Path.{_≡_}
 use mathlib.Core.Bool.{Bool, true, false}
 use mathlib.Core.List.{List}
@@ -23,6 +23,7 @@ use Rattle.flags.specs.declared.Returned.{Returned}
 use Rattle.flags.specs.Answers.{nameTold, NameMarks, BookMoves, BookReturns}
 use Rattle.plan.specs.Update.{PlanUpdated}
 use Rattle.rules.specs.Chips.{byChip}
+use Rattle.rules.specs.Status.{bitsIn}
 
 pub record SoundState (s : State) : Type 0 where
   -- "chip number 8 or 5"
@@ -63,6 +64,14 @@ pub record SoundState (s : State) : Type 0 where
   pub aai-next-at-most : s .aai ≡ true → s .next ≤ firstProtected s
   -- and below it when left is 0."
   pub aai-next-below : s .aai ≡ true → s .left ≡ 0 → s .next < firstProtected s
+  -- "Pending bits join the state and its soundness, and it is then busy." (02, A4)
+  pub pending-busy : s .pending ≡ true → 0 < s .left
+  -- "The 008A keeps its rule."
+  pub pending-05pa : s .pending ≡ true → s .chip ≡ 5
+  -- without a status write that goes on there are no such bits (ours)
+  pub without-pending : s .pending ≡ false → s .«pending_bits» ≡ 0
+  -- and never others than it can set (ours)
+  pub pending-writable : s .«pending_bits» ≡ bitsIn (s .«pending_bits»)
 
 pub record Soundness (s : State) : Type 0 where
   -- "A state is sound when": the calls' test says no more and no less

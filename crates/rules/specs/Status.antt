@@ -1,8 +1,8 @@
--- The status bits (01, "State"), of every sound state.
+-- The status bits (01, "State"): of every sound state, and of a byte that is written.
 use mathlib.Core.Path.{_≡_}
-use mathlib.Core.Bool.{true}
-use Prim.Native.Nat.{_<_}
-use lib.Dec.{ltb}
+use mathlib.Core.Bool.{Bool, true}
+use Prim.Native.Nat.{ℕ, _+_, _*_, _<_}
+use lib.Dec.{ltb, eqb}
 use Rattle.common.specs.Bits.{bitAt, bit}
 use Rattle.state.specs.declared.State.{State}
 use Rattle.state.specs.Status.{statusOf}
@@ -26,3 +26,17 @@ pub record StatusBits (s : State) (sound : isSound s ≡ true) : Type 0 where
   pub bit-5-tb : bitAt (statusOf s) 5 ≡ byChip (s .chip) 0 (bit (s .tb) 1)
   -- and no further bit: it is a byte
   pub eight-bits : statusOf s < 256
+
+-- ---- a byte that is written
+
+-- "It sets BP": bits 2 to 4
+abbrev pub levelIn : ℕ → ℕ
+levelIn byte = bitAt byte 2 + bitAt byte 3 * 2 + bitAt byte 4 * 4
+
+-- "and BPL, and TB": the bit is 1
+abbrev pub isSet : ℕ → ℕ → Bool
+isSet byte b = eqb (bitAt byte b) 1
+
+-- the bits that a status write sets, 2 to 5 and 7, as a byte
+abbrev pub bitsIn : ℕ → ℕ
+bitsIn byte = bitAt byte 2 * 4 + bitAt byte 3 * 8 + bitAt byte 4 * 16 + bitAt byte 5 * 32 + bitAt byte 7 * 128

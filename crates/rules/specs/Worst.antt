@@ -15,17 +15,17 @@ use Rattle.rules.specs.Driver.{CutAt}
 
 -- "script bytes"
 abbrev pub worstBytes : ℕ → ℕ
-worstBytes number = byChip number 26672 4441
+worstBytes number = byChip number 26672 4453
 
 -- what the answer to a plan reports, by the chip's number
 pub record NotAbove (number : ℕ) (r : Planned) : Type 0 where
   pub frames : r .frames ≤ byChip number 3079 38
-  pub microseconds : r .microseconds ≤ byChip number 14343 25500
+  pub microseconds : r .microseconds ≤ byChip number 14343 35500
   pub bytes : r .length ≤ worstBytes number
 
 pub record WorstRules : Type 0 where
   -- "a worst case over all accepted plans. On the 008A: at most 3,079 frames, 14,343 µs and 26,672 script bytes. On the page chips: at most 38 frames,
-  -- 25,500 µs and 4,441 bytes"
+  -- 25,500 µs and 4,441 bytes, plus A4's waits on the 05PA": 10,000 µs and 12 bytes
   pub not-above : (s : State) (wp : Bool) (array : List ℕ) (start : ℕ) (wanted buffer after : List ℕ) (r : Planned)
       → PlanUpdated s wp array start wanted buffer after r → r .number ≡ 0 → NotAbove (s .chip) r
   -- so a buffer of these bytes is never too short
@@ -38,5 +38,5 @@ pub record WorstRules : Type 0 where
       → PlanUpdated (lost .state) wp (lost .array) start wanted room written answer → worstBytes (lost .state .chip) ≤ length room → answer .number ≡ 0
   -- "Show for one of the chips a plan that reaches all its frame and byte limits": on an erased 05PA with BP 001, and the time too
   pub reached : (wp : Bool) (array buffer after : List ℕ) (r : Planned) → length array ≡ 65536 → ((k : ℕ) → k < 65536 → getD array k 0 ≡ 0xff)
-      → length buffer ≡ 4441 → PlanUpdated (atRest 5 1 false false) wp array 1 (replicate 4096 0x00) buffer after r
-      → (r .number ≡ 0) × ((r .frames ≡ 38) × ((r .microseconds ≡ 25500) × (r .length ≡ 4441)))
+      → length buffer ≡ 4453 → PlanUpdated (atRest 5 1 false false) wp array 1 (replicate 4096 0x00) buffer after r
+      → (r .number ≡ 0) × ((r .frames ≡ 38) × ((r .microseconds ≡ 35500) × (r .length ≡ 4453)))

@@ -1,2 +1,3 @@
+pub mod Plans
 mod Plan
 pub mod Sessions

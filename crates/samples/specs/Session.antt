@@ -8,6 +8,7 @@ use lib.ListN.{length, getD}
 use Rattle.state.specs.declared.State.{State}
 use Rattle.state.specs.State.{dataOf}
 use Rattle.state.specs.Protection.{firstProtected}
+use Rattle.state.specs.Power.{powerUp}
 use Rattle.state.specs.Time.{passTime}
 use Rattle.frame.specs.Device.{Device, device, withState}
 use Rattle.frame.specs.Line.{Line, onLine, Long}
@@ -22,6 +23,8 @@ pub data Step : Type 0 where
   send : List ℕ → List ℕ → List ℕ → Step
   -- so many microseconds pass
   pass : ℕ → Step
+  -- the power goes and comes back
+  powered : Step
   -- the array's byte at an address
   byteIs : ℕ → ℕ → Step
   -- whether an address is protected
@@ -35,6 +38,7 @@ Runs d [] = Unit {0}
 Runs d (send f output driven ∷ steps) =
     ((lent : Line) → Long (length f) lent → FrameRun true f d lent 0 (ranDevice true f d) (onLine output driven)) × Runs (ranDevice true f d) steps
 Runs d (pass n ∷ steps) = (passTime (d .state) n .number ≡ 0) × Runs (withState d (passTime (d .state) n .state)) steps
+Runs d (powered ∷ steps) = (powerUp (d .state) .number ≡ 0) × Runs (withState d (powerUp (d .state) .state)) steps
 Runs d (byteIs address byte ∷ steps) = (getD (d .array) address 0 ≡ byte) × Runs d steps
 Runs d (protects address answer ∷ steps) = (leb (firstProtected (d .state)) address ≡ answer) × Runs d steps
 Runs d (plans start wanted room script frames microseconds ∷ steps) =

@@ -1,11 +1,11 @@
--- The sample sessions that document 01 marks P, in its order, with which bytes of each frame are driven; and ours of 02's A10.
+-- The sample sessions that document 01 marks P, in its order, with which bytes of each frame are driven; and ours of 02's A10 and A4.
 use mathlib.Core.Bool.{true, false}
 use mathlib.Core.List.{List, [], _∷_, _++_}
 use Prim.Native.Nat.{ℕ}
 use Rattle.state.specs.declared.State.{State}
 use Rattle.state.specs.State.{withWel}
 use Rattle.state.specs.Power.{atRest, newChip}
-use Rattle.samples.specs.Session.{Step, send, pass, byteIs, protects, plans, Session}
+use Rattle.samples.specs.Session.{Step, send, pass, powered, byteIs, protects, plans, Session}
 
 abbrev session : State → ℕ → List Step → Session
 session s fill steps = record { state = s; fill = fill; steps = steps }
@@ -82,6 +82,34 @@ drivenSessions =
     ∷ send (0x03 ∷ 0x00 ∷ 0x00 ∷ 0x00 ∷ 0x00 ∷ []) (0xff ∷ 0xff ∷ 0xff ∷ 0xff ∷ 0x0f ∷ []) (0x00 ∷ 0x00 ∷ 0x00 ∷ 0x00 ∷ 0x01 ∷ []) ∷ [])
     ∷ []
 
+-- a status write in its time (ours)
+abbrev pub statusSessions : List Session
+statusSessions =
+    -- the 05PA: 05 shows BUSY and WEL and the old bits for 5,000 µs, then the new bits alone
+    session (newChip 5 .state) 0xff
+    (send (0x06 ∷ []) (0xff ∷ []) (0x00 ∷ []) ∷ send (0x01 ∷ 0x1c ∷ []) (0xff ∷ 0xff ∷ []) (0x00 ∷ 0x00 ∷ [])
+    ∷ send (0x05 ∷ 0x00 ∷ []) (0xff ∷ 0x03 ∷ []) (0x00 ∷ 0x01 ∷ []) ∷ protects 0x0000 false
+    ∷ pass 4999 ∷ send (0x05 ∷ 0x00 ∷ []) (0xff ∷ 0x03 ∷ []) (0x00 ∷ 0x01 ∷ []) ∷ protects 0x0000 false
+    ∷ pass 1 ∷ send (0x05 ∷ 0x00 ∷ []) (0xff ∷ 0x1c ∷ []) (0x00 ∷ 0x01 ∷ []) ∷ protects 0x0000 true ∷ [])
+    -- powered up before that: the old bits
+    ∷ session (newChip 5 .state) 0xff
+    (send (0x06 ∷ []) (0xff ∷ []) (0x00 ∷ []) ∷ send (0x01 ∷ 0x1c ∷ []) (0xff ∷ 0xff ∷ []) (0x00 ∷ 0x00 ∷ [])
+    ∷ powered ∷ send (0x05 ∷ 0x00 ∷ []) (0xff ∷ 0x00 ∷ []) (0x00 ∷ 0x01 ∷ []) ∷ [])
+    -- TB and BPL come with BP, and bits 0, 1 and 6 of the byte with nothing
+    ∷ session (leveled 5 7) 0xff
+    (send (0x06 ∷ []) (0xff ∷ []) (0x00 ∷ []) ∷ send (0x01 ∷ 0xe7 ∷ []) (0xff ∷ 0xff ∷ []) (0x00 ∷ 0x00 ∷ [])
+    ∷ send (0x05 ∷ 0x00 ∷ []) (0xff ∷ 0x1f ∷ []) (0x00 ∷ 0x01 ∷ []) ∷ pass 5000 ∷ send (0x05 ∷ 0x00 ∷ []) (0xff ∷ 0xa4 ∷ []) (0x00 ∷ 0x01 ∷ []) ∷ [])
+    -- while it goes on 06 and 04 are ignored
+    ∷ session (newChip 5 .state) 0xff
+    (send (0x06 ∷ []) (0xff ∷ []) (0x00 ∷ []) ∷ send (0x01 ∷ 0x1c ∷ []) (0xff ∷ 0xff ∷ []) (0x00 ∷ 0x00 ∷ [])
+    ∷ send (0x06 ∷ []) (0xff ∷ []) (0x00 ∷ []) ∷ send (0x04 ∷ []) (0xff ∷ []) (0x00 ∷ []) ∷ pass 5000
+    ∷ send (0x05 ∷ 0x00 ∷ []) (0xff ∷ 0x1c ∷ []) (0x00 ∷ 0x01 ∷ []) ∷ [])
+    -- the 008A: at once
+    ∷ session (newChip 8 .state) 0xff
+    (send (0x50 ∷ []) (0xff ∷ []) (0x00 ∷ []) ∷ send (0x01 ∷ 0x00 ∷ []) (0xff ∷ 0xff ∷ []) (0x00 ∷ 0x00 ∷ [])
+    ∷ send (0x05 ∷ 0x00 ∷ []) (0xff ∷ 0x00 ∷ []) (0x00 ∷ 0x01 ∷ []) ∷ [])
+    ∷ []
+
 -- "008A at rest, status 00, 012345 FF, wanted FE: 5A 46 00 01 06, 5A 46 00 06 AD 01 23 44 FF FE, 5A 57 00 00 00 07, 5A 46 00 01 04.
 -- 26 bytes, 3 frames, 7 µs."
 abbrev pub planSession : Session
@@ -94,5 +122,21 @@ planSession =
     ∷ 0x5a ∷ 0x46 ∷ 0x00 ∷ 0x01 ∷ 0x04 ∷ [])
     3 7 ∷ [])
 
+-- the 05PA with BP 001, 1234 FF, wanted FE (ours): steps 1 and 4 with a wait each. 54 bytes, 6 frames, 11,500 µs
+abbrev pub protectedSession : Session
+protectedSession =
+    session (leveled 5 1) 0xff
+    (plans 0x1234 (0xfe ∷ []) 54
+    (0x5a ∷ 0x46 ∷ 0x00 ∷ 0x01 ∷ 0x06
+    ∷ 0x5a ∷ 0x46 ∷ 0x00 ∷ 0x02 ∷ 0x01 ∷ 0x00
+    ∷ 0x5a ∷ 0x57 ∷ 0x00 ∷ 0x00 ∷ 0x13 ∷ 0x88
+    ∷ 0x5a ∷ 0x46 ∷ 0x00 ∷ 0x01 ∷ 0x06
+    ∷ 0x5a ∷ 0x46 ∷ 0x00 ∷ 0x05 ∷ 0x02 ∷ 0x00 ∷ 0x12 ∷ 0x34 ∷ 0xfe
+    ∷ 0x5a ∷ 0x57 ∷ 0x00 ∷ 0x00 ∷ 0x05 ∷ 0xdc
+    ∷ 0x5a ∷ 0x46 ∷ 0x00 ∷ 0x01 ∷ 0x06
+    ∷ 0x5a ∷ 0x46 ∷ 0x00 ∷ 0x02 ∷ 0x01 ∷ 0x04
+    ∷ 0x5a ∷ 0x57 ∷ 0x00 ∷ 0x00 ∷ 0x13 ∷ 0x88 ∷ [])
+    6 11500 ∷ [])
+
 abbrev pub sessions : List Session
-sessions = (frameSessions ++ drivenSessions) ++ (planSession ∷ [])
+sessions = (frameSessions ++ drivenSessions ++ statusSessions) ++ (planSession ∷ protectedSession ∷ [])

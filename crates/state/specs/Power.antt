@@ -21,6 +21,8 @@ atRest chip bp tb bpl = record {
   aai = false;
   armed = false;
   «power_down» = false;
+  pending = false;
+  «pending_bits» = 0;
   left = 0;
   next = 0;
 }
@@ -33,7 +35,7 @@ newState number = atRest number (chipOf number .«new_level») false false
 unfoldable pub newChip : ℕ → Answer
 newChip number = cond (isKnown number) (granted (newState number)) (refused stateNotSound (newState 5))
 
--- "Power-up gives the 008A its new state; the 05PA keeps BP, TB and BPL, the rest 0."
+-- "Power-up gives the 008A its new state; the 05PA keeps BP, TB and BPL, the rest 0."; "Power-up with bits pending keeps the old." (02, A4)
 unfoldable pub poweredUp : State → State
 poweredUp s = cond (dataOf s .keeps) (atRest (s .chip) (s .bp) (s .tb) (s .bpl)) (newState (s .chip))
 

@@ -4,8 +4,8 @@ use mathlib.Core.Bool.{Bool, true, false, _&&_, not}
 use mathlib.Core.List.{List, [], _∷_, _++_}
 use Prim.Native.Nat.{ℕ, zero, suc}
 use Rattle.state.specs.declared.State.{State}
-use Rattle.state.specs.State.{withLeft, withWel, withArmed, withPowerDown, withAai, withBits}
-use Rattle.state.specs.Soundness.{allOf, registerClauses, aaiClauses, isSound}
+use Rattle.state.specs.State.{withLeft, withWel, withArmed, withPowerDown, withAai, withBits, withPending}
+use Rattle.state.specs.Soundness.{allOf, registerClauses, aaiClauses, pendingClauses, isSound}
 use Rattle.state.specs.Power.{atRest}
 
 -- of a list of clauses, the one at a place fails, and no other
@@ -15,7 +15,7 @@ onlyFails zero (b ∷ bs) = not b && allOf bs
 onlyFails (suc place) (b ∷ bs) = b && onlyFails place bs
 
 abbrev pub allClauses : State → List Bool
-allClauses s = registerClauses s ++ aaiClauses s
+allClauses s = registerClauses s ++ aaiClauses s ++ pendingClauses s
 
 -- a clause, by its place in "A state is sound when", and two states that differ in it
 pub record Row : Type 0 where
@@ -31,7 +31,7 @@ pub record RowHolds (r : Row) : Type 0 where
   pub unsound : isSound (r .breaks) ≡ false
   pub alone : onlyFails (r .clause) (allClauses (r .breaks)) ≡ true
 
--- unprotected chips at rest, in a write cycle, and in AAI
+-- unprotected chips at rest, in a write cycle, in AAI, and in a status write's cycle
 abbrev big : State
 big = atRest 8 0 false false
 
@@ -43,6 +43,9 @@ busy s n = withLeft (withWel s true) n
 
 abbrev inAai : ℕ → ℕ → State
 inAai left next = withAai (busy big left) true next
+
+abbrev writing : State → ℕ → ℕ → State
+writing s left bits = withPending (busy s left) true bits
 
 abbrev pub rows : List Row
 rows =
@@ -66,6 +69,13 @@ rows =
     ∷ row 16 (inAai 0 2) (inAai 0 0)  -- at least 2
     ∷ row 17 (inAai 7 0x10_0000) (inAai 7 0x10_0002)  -- at most the first protected address
     ∷ row 18 (inAai 0 0x0f_fffe) (inAai 0 0x10_0000)  -- and below it when left is 0
+    ∷ row 19 (writing small 1 0x1c) (writing small 0 0x1c)  -- pending: busy
+    ∷ row 19 (writing small 1000000 0) (withPending small true 0)  -- for any time left
+    ∷ row 20 (writing small 7 0) (writing big 7 0)  -- only on the 05PA
+    ∷ row 21 (writing small 7 0x1c) (withPending (busy small 7) false 0x1c)  -- without it there are no bits
+    ∷ row 22 (writing small 7 0xbc) (writing small 7 0xbd)  -- and never bit 0,
+    ∷ row 22 (writing small 7 0xbc) (writing small 7 0xbe)  -- 1
+    ∷ row 22 (writing small 7 0xbc) (writing small 7 0xfc)  -- or 6
     ∷ []
 
 -- sound states that calls reach
@@ -75,4 +85,6 @@ reached =
     ∷ withPowerDown (withWel small true) true  -- 06, then B9 on the 05PA: power-down with WEL 1
     ∷ inAai 0 2  -- AAI that waits for its next word
     ∷ inAai 7 0x10_0000  -- the last word of the array being programmed
+    ∷ writing small 5000 0x1c  -- 06, then 01 1C on the 05PA
+    ∷ writing (atRest 5 7 true false) 5000 0  -- 06, then 01 00 on a protected one
     ∷ []

@@ -1,4 +1,4 @@
--- "A state is sound when" (01, "State"): clause by clause as a test, and in words.
+-- "A state is sound when" (01, "State"; 02, A4): clause by clause as a test, and in words.
 use mathlib.Core.Path.{_≡_}
 use mathlib.Core.Bool.{Bool, true, false, _&&_, _||_, not}
 use mathlib.Core.List.{List, [], _∷_}
@@ -8,6 +8,7 @@ use Rattle.state.specs.declared.State.{State}
 use Rattle.chip.specs.Chip.{isKnown}
 use Rattle.state.specs.State.{dataOf}
 use Rattle.state.specs.Protection.{firstProtected}
+use Rattle.state.specs.Status.{writableBits}
 
 -- all hold, joined from the left
 abbrev pub allFrom : Bool → List Bool → Bool
@@ -51,8 +52,17 @@ aaiClauses s =
     ∷ implies (s .aai) (isBusy s || ltb (s .next) (firstProtected s))  -- and below it when left is 0."
     ∷ []
 
+-- "Pending bits join the state and its soundness, and it is then busy."
+abbrev pub pendingClauses : State → List Bool
+pendingClauses s =
+    implies (s .pending) (isBusy s)  -- no tighter bound on left than any cycle's (ours)
+    ∷ implies (s .pending) (ltb 0 (dataOf s .«status_time»))  -- only where a status write takes time
+    ∷ (s .pending || eqb (s .«pending_bits») 0)  -- without it there are no bits (ours)
+    ∷ eqb (s .«pending_bits») (writableBits (s .«pending_bits»))  -- nor any that can't be written (ours)
+    ∷ []
+
 unfoldable pub isSound : State → Bool
-isSound s = allOf (registerClauses s) && allOf (aaiClauses s)
+isSound s = allOf (registerClauses s) && allOf (aaiClauses s) && allOf (pendingClauses s)
 
 -- ---- the same in words
 
@@ -70,6 +80,10 @@ pub record Running (s : State) : Type 0 where
   pub next-le-first : s .next ≤ firstProtected s
   pub next-lt-first : s .left ≡ 0 → s .next < firstProtected s
 
+pub record Writing (s : State) : Type 0 where
+  pub busy : 0 < s .left
+  pub takes-time : 0 < dataOf s .«status_time»
+
 pub record Sound (s : State) : Type 0 where
   pub chip-known : isKnown (s .chip) ≡ true
   pub bp-le-7 : s .bp ≤ 7
@@ -82,3 +96,6 @@ pub record Sound (s : State) : Type 0 where
   pub aai-had : s .aai ≡ true → dataOf s .aai ≡ true
   pub next-0-without-aai : s .aai ≡ false → s .next ≡ 0
   pub in-aai : s .aai ≡ true → Running s
+  pub while-pending : s .pending ≡ true → Writing s
+  pub bits-0-without-pending : s .pending ≡ false → s .«pending_bits» ≡ 0
+  pub bits-writable : s .«pending_bits» ≡ writableBits (s .«pending_bits»)

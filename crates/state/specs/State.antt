@@ -19,6 +19,8 @@ withLeft s n = record {
   aai = s .aai;
   armed = s .armed;
   «power_down» = s .«power_down»;
+  pending = s .pending;
+  «pending_bits» = s .«pending_bits»;
   left = n;
   next = s .next;
 }
@@ -33,6 +35,8 @@ withWel s b = record {
   aai = s .aai;
   armed = s .armed;
   «power_down» = s .«power_down»;
+  pending = s .pending;
+  «pending_bits» = s .«pending_bits»;
   left = s .left;
   next = s .next;
 }
@@ -47,6 +51,8 @@ withArmed s b = record {
   aai = s .aai;
   armed = b;
   «power_down» = s .«power_down»;
+  pending = s .pending;
+  «pending_bits» = s .«pending_bits»;
   left = s .left;
   next = s .next;
 }
@@ -61,6 +67,8 @@ withPowerDown s b = record {
   aai = s .aai;
   armed = s .armed;
   «power_down» = b;
+  pending = s .pending;
+  «pending_bits» = s .«pending_bits»;
   left = s .left;
   next = s .next;
 }
@@ -76,6 +84,8 @@ withAai s b n = record {
   aai = b;
   armed = s .armed;
   «power_down» = s .«power_down»;
+  pending = s .pending;
+  «pending_bits» = s .«pending_bits»;
   left = s .left;
   next = n;
 }
@@ -91,6 +101,25 @@ withBits s bp tb bpl = record {
   aai = s .aai;
   armed = s .armed;
   «power_down» = s .«power_down»;
+  pending = s .pending;
+  «pending_bits» = s .«pending_bits»;
+  left = s .left;
+  next = s .next;
+}
+
+-- a status write that goes on, and the bits that it writes
+abbrev pub withPending : State → Bool → ℕ → State
+withPending s b bits = record {
+  chip = s .chip;
+  bp = s .bp;
+  tb = s .tb;
+  bpl = s .bpl;
+  wel = s .wel;
+  aai = s .aai;
+  armed = s .armed;
+  «power_down» = s .«power_down»;
+  pending = b;
+  «pending_bits» = bits;
   left = s .left;
   next = s .next;
 }

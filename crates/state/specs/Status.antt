@@ -18,6 +18,10 @@ statusOf s =
 abbrev pub has : ℕ → ℕ → Bool
 has byte value = eqb (byte / value % 2) 1
 
+-- those that can be written: 2 to 5 and 7
+abbrev pub writableBits : ℕ → ℕ
+writableBits byte = byte / 4 % 16 * 4 + byte / 128 % 2 * 128
+
 -- "It sets BP and BPL, and TB on the 05PA, from its byte"
 abbrev pub withStatusByte : State → ℕ → State
 withStatusByte s byte = withBits s (byte / 4 % 8) (dataOf s .«top_bottom» && has byte 32) (has byte 128)

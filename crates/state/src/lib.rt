@@ -23,6 +23,9 @@ pub struct State {
     pub armed: bool,
     // power-down
     pub power_down: bool,
+    // a status write goes on, and sets these bits when its cycle ends: 2 to 5 and 7 of its byte
+    pub pending: bool,
+    pub pending_bits: u8,
     // microseconds until the write cycle ends
     pub left: u32,
     // where AAI goes on

@@ -18,6 +18,8 @@ fn at_rest(chip: u8, bp: u8, tb: bool, bpl: bool) -> State
         aai: false,
         armed: false,
         power_down: false,
+        pending: false,
+        pending_bits: 0,
         left: 0,
         next: 0,
     }
@@ -40,7 +42,7 @@ pub fn new_chip(number: u8) -> Answer
     }
 }
 
-// The state after power-off and power-up.
+// The state after power-off and power-up: bits that were pending are lost.
 pub fn powered_up(s: State) -> State
     ensures { λ r. ⌜ r ≡ poweredUp s ⌝ }
 {

@@ -1,7 +1,7 @@
 // "A state is sound when": the test that every call makes of the state it is given. The first clause that fails ends it.
 use crate::State;
 ghost use mathlib.Core.Path.{_≡_};
-ghost use Rattle.state.specs.Soundness.{allOf, registerClauses, aaiClauses, isSound};
+ghost use Rattle.state.specs.Soundness.{allOf, registerClauses, aaiClauses, pendingClauses, isSound};
 
 fn registers_sound(s: State) -> bool
     ensures { λ r. ⌜ r ≡ allOf (registerClauses s) ⌝ }
@@ -73,11 +73,30 @@ fn aai_sound(s: State) -> bool
     s.next < first
 }
 
+// A status write is pending only while it goes on, on a chip where it takes time.
+fn pending_sound(s: State) -> bool
+    ensures { λ r. ⌜ r ≡ allOf (pendingClauses s) ⌝ }
+{
+    if !s.pending {
+        return s.pending_bits == 0;
+    }
+    if s.left == 0 {
+        return false;
+    }
+    if chip::chip_of(s.chip).status_time == 0 {
+        return false;
+    }
+    s.pending_bits == crate::status::writable_bits(s.pending_bits)
+}
+
 pub fn is_sound(s: State) -> bool
     ensures { λ r. ⌜ r ≡ isSound s ⌝ }
 {
     if !registers_sound(s) {
         return false;
     }
-    aai_sound(s)
+    if !aai_sound(s) {
+        return false;
+    }
+    pending_sound(s)
 }

@@ -2,7 +2,7 @@
 use crate::State;
 ghost use mathlib.Core.Path.{_≡_};
 ghost use Prim.Native.Nat.{_<_};
-ghost use Rattle.state.specs.Status.{statusOf, has, withStatusByte};
+ghost use Rattle.state.specs.Status.{statusOf, has, writableBits, withStatusByte};
 
 pub fn status_of(s: State) -> u8
     ensures { λ r. ⌜ r ≡ statusOf s ⌝ }
@@ -21,6 +21,13 @@ fn has_bit(byte: u8, value: u8) -> bool
     ensures { λ r. ⌜ r ≡ has byte value ⌝ }
 {
     byte / value % 2 == 1
+}
+
+// A byte's bits 2 to 5 and 7.
+pub fn writable_bits(byte: u8) -> u8
+    ensures { λ r. ⌜ r ≡ writableBits byte ⌝ }
+{
+    byte / 4 % 16 * 4 + byte / 128 % 2 * 128
 }
 
 // The bits that a status write sets, from its byte.

@@ -5,12 +5,19 @@ use common::refusals;
 ghost use mathlib.Core.Path.{_≡_};
 ghost use Rattle.state.specs.Time.{cycleEnded, timePassed, passTime};
 
-// The write cycle is over. WEL falls here and not when the frame ends; only AAI that can go on keeps it.
-fn cycle_ended(s: State) -> State
+// The write cycle is over. WEL falls here and not when the frame ends; only AAI that can go on keeps it. The bits of a status write are seen from here on.
+pub fn cycle_ended(s: State) -> State
     ensures { λ r. ⌜ r ≡ cycleEnded s ⌝ }
 {
     let mut t = s;
     t.left = 0;
+    if s.pending {
+        t = crate::status::with_status_byte(t, s.pending_bits);
+        t.pending = false;
+        t.pending_bits = 0;
+        t.wel = false;
+        return t;
+    }
     if s.aai {
         if s.next < crate::protection::first_protected(s) {
             return t;

@@ -78,7 +78,7 @@ pub enum Operation {
 
 pub type Prepare = fn() -> Operation;
 
-pub const OPERATIONS: [(&str, Prepare); 24] = [
+pub const OPERATIONS: [(&str, Prepare); 25] = [
     ("05, status", || frame(writing(8), SIZE_008A, &[0x05, 0x00], 2)),
     ("05 while busy", || {
         let state = State { left: 1_000, ..writing(8) };
@@ -87,6 +87,9 @@ pub const OPERATIONS: [(&str, Prepare); 24] = [
     ("a refused frame", || refused(frame(writing(8), SIZE_008A, &[0x05, 0x00], 2))),
     ("03, 16 bytes", || frame(writing(8), SIZE_008A, &[0x03, 0x01, 0x23, 0x45], 20)),
     ("03, 4,096 bytes", || frame(writing(8), SIZE_008A, &[0x03, 0x01, 0x23, 0x45], 4_100)),
+    ("01, status write (05PA)", || {
+        frame(State { armed: true, ..writing(5) }, SIZE_05PA, &[0x01, 0x1C], 2)
+    }),
     ("02, page of 256 (05PA)", || frame(writing(5), SIZE_05PA, &[0x02, 0x00, 0x12, 0x00], 260)),
     ("AD, one word in AAI (008A)", || {
         let state = State { aai: true, next: 0x01_2344, ..writing(8) };

@@ -161,6 +161,14 @@ impl Case {
         }
     }
 
+    /// The state that it is given, if it is given one.
+    pub fn state(&self) -> Option<&State> {
+        match self {
+            Case::PowerUp { state } | Case::Wait { state, .. } => Some(state),
+            _ => self.on().map(|on| &on.state),
+        }
+    }
+
     /// The sector and the scenes, if it is about a book.
     pub fn book(&self) -> Option<(usize, &[u32])> {
         match self {

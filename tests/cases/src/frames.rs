@@ -2,7 +2,7 @@
 
 use model::{Chip, Kind, State, LONGEST_FRAME};
 
-use crate::{first_protected, size, states, Rng, BORDERS, F25L008A, F25L05PA};
+use crate::{first_protected, pending, size, states, Rng, BORDERS, F25L008A, F25L05PA};
 
 /// What is to become of a frame. Where its opcode can't meet that fate, it meets some other.
 #[derive(Clone, Copy)]
@@ -108,7 +108,8 @@ pub fn bytes(rng: &mut Rng, opcode: u8, address: usize, length: usize, aai: bool
     frame
 }
 
-/// A state at rest, or in AAI, that takes a frame of this kind and address, and a WP level.
+/// A state at rest, in AAI or in a status write, that takes a frame of this kind and address, and a WP
+/// level.
 fn taking(rng: &mut Rng, chip: u8, kind: Kind, address: usize) -> (State, bool) {
     let mut state = states::at_rest(rng, chip);
     let mut wp_high = rng.coin();
@@ -129,6 +130,7 @@ fn taking(rng: &mut Rng, chip: u8, kind: Kind, address: usize) -> (State, bool) 
             state.bp = level(rng, chip, target(chip, kind, address), false);
         }
         Kind::Signature if chip == F25L05PA && rng.coin() => state = states::in_power_down(rng),
+        Kind::ReadStatus if chip == F25L05PA && rng.one_in(3) => state = pending::state(rng),
         _ => {}
     }
     (state, wp_high)

@@ -3,11 +3,14 @@
 use model::{Calls, Model, State, LONGEST_FRAME};
 
 use crate::board::Board;
-use crate::case::{Case, Line, Mask, On, Outcome};
+use crate::case::{Case, Line, On, Outcome};
 use crate::frames::{self, FATES};
 use crate::spoil::{self, Planted};
 use crate::sweep::Sweep;
-use crate::{book, first_protected, malform, plans, scripts, size, states, Rng, CHIPS, F25L008A};
+use crate::{
+    book, first_protected, malform, masks, plans, scripts, size, states, Rng, CHIPS, F25L008A,
+    F25L05PA,
+};
 
 /// A case and the refusals that were planted in it.
 pub struct Item {
@@ -139,7 +142,8 @@ impl Generator {
 
     fn frame(&mut self, chip: u8, board: &mut Board, cut: bool) -> Item {
         let rng = &mut self.rng;
-        let opcode = frames::opcode(rng, chip);
+        // A status write has more masks to be cut with than there are lengths.
+        let opcode = if cut && rng.one_in(6) { 0x01 } else { frames::opcode(rng, chip) };
         let fate = rng.pick(&FATES);
         let (mut state, wp_high, mut frame) = frames::frame(rng, chip, opcode, fate);
         if rng.one_in(5) {
@@ -162,16 +166,7 @@ impl Generator {
             line = spoil::line(rng, frame.len());
         }
         let case = if cut {
-            let mut length = if frame.is_empty() {
-                0
-            } else {
-                Model::target_length(&on.state, wp_high, &frame).unwrap_or(0)
-            };
-            if spoils && rng.one_in(2) {
-                planted.plant(5);
-                length = spoil::other_length(rng, length);
-            }
-            let mask = mask(rng, length);
+            let mask = masks::mask(rng, &on, &frame, spoils, &mut planted);
             Case::Cut { on, frame, line, mask }
         } else {
             Case::Frame { on, frame, line }
@@ -251,6 +246,10 @@ impl Generator {
             // Nothing sets WEL, which is rare by chance.
             state = states::disabled(state);
             script = scripts::disabled(rng, &script);
+        } else if chip == F25L05PA && rng.one_in(10) {
+            // Protection that is to go, and programs in between, which are rare by chance.
+            state = State { bp: rng.pick(&[1, 2, 3, 5, 6, 7]), ..states::at_rest(rng, chip) };
+            script = scripts::too_early(rng);
         }
         let mut on = On::new(state, rng.coin());
         let spoils = rng.one_in(3);
@@ -309,14 +308,5 @@ impl Generator {
         };
         let case = Case::Read { script, offset };
         Item::new(case, planted)
-    }
-}
-
-fn mask(rng: &mut Rng, length: usize) -> Mask {
-    match rng.below(8) {
-        0 if length <= 4_101 => Mask::Bytes(vec![0x00; length]),
-        1 if length <= 4_101 => Mask::Bytes(vec![0xFF; length]),
-        _ if length <= 4_101 => Mask::Bytes(rng.bytes(length)),
-        _ => Mask::Mixed { salt: rng.word() as u32, length },
     }
 }

@@ -1,9 +1,9 @@
 //! What each level of protection, BP2 BP1 BP0, protects, told by sector erases (20).
 
-use model::{Answer, Calls, State, Told};
+use model::{Calls, State};
 
 use crate::chip::Chip;
-use crate::{first_protected, size, CHIPS};
+use crate::{first_protected, refused, size, CHIPS};
 
 /// The levels that protect otherwise, and the numbers over 7 that some call takes for one.
 pub fn failing<C: Calls>() -> Vec<String> {
@@ -13,7 +13,8 @@ pub fn failing<C: Calls>() -> Vec<String> {
 fn failing_on<C: Calls>(chip: u8) -> Vec<String> {
     let levels = (0..8).map(|bp| (bp, first_protected(chip, bp)));
     let levels = levels.filter(|(bp, first)| !protects_from::<C>(chip, *bp, *first));
-    let others = (8..=255).filter(|bp| !is_refused::<C>(chip, *bp));
+    let over = |bp| State { bp, ..C::new_chip(chip).state };
+    let others = (8..=255).filter(|bp| !refused::by_every_call::<C>(over(*bp)));
     levels
         .map(|(bp, first)| format!("chip {chip}, BP {bp:03b}: protected from {first:06X} up"))
         .chain(others.map(|bp| format!("chip {chip}, BP {bp}: no level")))
@@ -34,10 +35,12 @@ fn protects_from<C: Calls>(chip: u8, bp: u8, first: usize) -> bool {
 fn erases<C: Calls>(chip: u8, bp: u8, address: usize) -> Option<bool> {
     const SECTOR: usize = 4_096;
     const TIME: u32 = 90_000;
+    const STATUS_TIME: u32 = 5_000;
     let mut chip = Chip::<C>::new(chip);
     chip.array.fill(0);
-    let ready =
-        chip.is_silent(&[0x06]) && chip.is_silent(&[0x01, bp << 2]) && chip.is_silent(&[0x06]);
+    let written = chip.is_silent(&[0x06]) && chip.is_silent(&[0x01, bp << 2]);
+    chip.wait(STATUS_TIME);
+    let ready = written && chip.is_silent(&[0x06]);
     let ignored = State { armed: false, ..chip.state };
     let taken = State { left: TIME, ..ignored };
     let mut erased = chip.array.clone();
@@ -51,34 +54,4 @@ fn erases<C: Calls>(chip: u8, bp: u8, address: usize) -> Option<bool> {
     } else {
         (chip.state == taken && chip.array == erased).then_some(true)
     }
-}
-
-/// Whether each call that is given a state refuses this level with 1, and changes nothing.
-fn is_refused<C: Calls>(chip: u8, bp: u8) -> bool {
-    let mut chip = Chip::<C>::new(chip);
-    chip.state.bp = bp;
-    let given = chip.state;
-    let (mut whole, mut cut) = (given, given);
-    let ([mut output, mut driven], mut buffer) = ([[0xA5; 4]; 2], [0xA5; 64]);
-    let (array, erase) = (&mut chip.array[..], [0x20, 0, 0, 0]);
-    let frame = C::frame(&mut whole, true, array, &erase, &mut output, &mut driven);
-    let cut_frame = C::cut_frame(&mut cut, true, array, &erase, &mut output, &mut driven, &[]);
-    let ran = C::run(given, true, array, &[], &mut [], &mut []);
-    let planned = C::plan(given, true, &chip.array, 0, &[0], &mut buffer);
-    let marked = C::book_mark(given, true, &chip.array, 0, &[0], &mut buffer);
-    let questions =
-        [C::book_is_read(given, &chip.array, 0, 0), C::book_count(given, &chip.array, 0)];
-    let answers = [
-        C::power_up(given),
-        C::wait(given, 1),
-        Answer { number: frame, state: whole },
-        Answer { number: cut_frame, state: cut },
-        Answer { number: planned.number, state: planned.state },
-        Answer { number: ran.number, state: ran.state },
-        Answer { number: marked.number, state: marked.state },
-    ];
-    answers == [Answer { number: 1, state: given }; 7]
-        && questions == [Told { number: 1, state: given, value: 0 }; 2]
-        && (output, driven, buffer) == ([0xA5; 4], [0xA5; 4], [0xA5; 64])
-        && chip.array.iter().all(|byte| *byte == 0xFF)
 }

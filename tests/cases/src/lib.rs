@@ -22,12 +22,17 @@ mod levels;
 mod line_sweep;
 mod listing;
 mod malform;
+mod masks;
+mod pending;
+mod refused;
 mod rng;
 mod samples;
 mod script_sweep;
 mod scripts;
 mod side;
 mod spoil;
+mod status_sweep;
+mod status_write;
 mod surveys;
 mod sweep;
 
@@ -47,13 +52,14 @@ pub const CHIPS: [u8; 2] = [F25L008A, F25L05PA];
 pub const BORDERS: [usize; 5] = [0x08_0000, 0x0C_0000, 0x0E_0000, 0x0F_0000, 0x10_0000];
 
 /// The names of the cases written out, with their answers, that fail: 01's samples, which bytes the chip
-/// drives, the levels of protection, bad records, surveys, the plans of the worst case, the flag book, sick
-/// sectors and flags by name.
+/// drives, the levels of protection, the status write that takes time, bad records, surveys, the plans of
+/// the worst case, the flag book, sick sectors and flags by name.
 pub fn written_out<C: Calls>() -> Vec<String> {
     [
         samples::failing::<C>(),
         driven::failing::<C>(),
         levels::failing::<C>(),
+        status_write::failing::<C>(),
         bad_records::failing::<C>(),
         surveys::failing::<C>(),
         worst::failing::<C>(),

@@ -1,9 +1,9 @@
 //! Good scripts, and where the records of any begin.
 
-use model::{kind, Calls, Model, LONGEST_SCRIPT};
+use model::{kind, Calls, Model, LONGEST_SCRIPT, STATUS_TIME};
 
 use crate::frames::{self, FATES};
-use crate::{Rng, BORDERS, F25L008A};
+use crate::{Rng, BORDERS, F25L008A, F25L05PA};
 
 pub fn put_frame(script: &mut Vec<u8>, frame: &[u8]) {
     script.extend([0x5A, 0x46]);
@@ -49,7 +49,30 @@ pub fn script(rng: &mut Rng, chip: u8) -> Vec<u8> {
     script
 }
 
-/// The same with nothing that sets WEL: a 06 is left out, or has a byte too many.
+/// For an 05PA that is protected: a status write that takes protection away, and programs that come before
+/// it is over; now and then one when it is.
+pub fn too_early(rng: &mut Rng) -> Vec<u8> {
+    let mut script = Vec::new();
+    put_frame(&mut script, &[0x06]);
+    put_frame(&mut script, &[0x01, rng.byte() & 0xA3]);
+    let mut left = STATUS_TIME;
+    for _ in 0..rng.between(1, 3) {
+        enable(rng, &mut script);
+        let address = frames::address(rng, F25L05PA);
+        let length = 4 + rng.between(1, 20);
+        put_frame(&mut script, &frames::bytes(rng, 0x02, address, length, false));
+        let wait = rng.below(left as usize) as u32;
+        put_wait(&mut script, wait);
+        left -= wait;
+    }
+    if rng.one_in(4) {
+        put_wait(&mut script, left);
+        program(rng, F25L05PA, &mut script);
+    }
+    script
+}
+
+/// A script with nothing that sets WEL: a 06 is left out, or has a byte too many.
 pub fn disabled(rng: &mut Rng, script: &[u8]) -> Vec<u8> {
     let mut disabled = Vec::new();
     for record in records(script) {
@@ -110,7 +133,8 @@ fn enable(rng: &mut Rng, script: &mut Vec<u8>) {
     }
 }
 
-/// Arming and a status write, now and then with something between.
+/// Arming and a status write, now and then with something between; where it takes time, what comes
+/// then.
 fn status_write(rng: &mut Rng, chip: u8, script: &mut Vec<u8>) {
     let arming = if chip == F25L008A { 0x50 } else { 0x06 };
     put_frame(script, &[if rng.coin() { arming } else { 0x06 }]);
@@ -119,6 +143,41 @@ fn status_write(rng: &mut Rng, chip: u8, script: &mut Vec<u8>) {
     }
     let byte = if rng.coin() { rng.byte() & 0x83 } else { rng.byte() };
     put_frame(script, &[0x01, byte]);
+    if chip == F25L05PA || rng.one_in(4) {
+        while_status_is_written(rng, chip, script);
+    }
+}
+
+/// The status asked for, frames that are ignored, and waits that are too short, exact or longer; mostly
+/// the time is over at the end, and the status is asked for again.
+fn while_status_is_written(rng: &mut Rng, chip: u8, script: &mut Vec<u8>) {
+    for _ in 0..rng.below(4) {
+        match rng.below(5) {
+            0 | 1 => put_frame(script, &[0x05, 0x00]),
+            2 => put_frame(script, &[rng.pick(&[0x06, 0x04, 0xB9, 0xC7])]),
+            3 => {
+                let address = frames::address(rng, chip);
+                put_frame(script, &[0x06]);
+                put_frame(script, &frames::bytes(rng, 0x02, address, 5, false));
+            }
+            _ => put_wait(script, rng.below(2_500) as u32),
+        }
+    }
+    let wait = match rng.below(8) {
+        0 => rng.below(100) as u32,
+        1 => STATUS_TIME - 1,
+        2 => STATUS_TIME + 1,
+        3 => rng.pick(&[15_000, 40_000]),
+        _ => STATUS_TIME,
+    };
+    put_wait(script, wait);
+    if rng.coin() {
+        put_frame(script, &[0x05, 0x00]);
+    }
+    if rng.one_in(4) {
+        put_wait(script, 1);
+        put_frame(script, &[0x05, 0x00]);
+    }
 }
 
 fn program(rng: &mut Rng, chip: u8, script: &mut Vec<u8>) {
@@ -171,7 +230,7 @@ fn ready(rng: &mut Rng, script: &mut Vec<u8>) {
 
 pub fn wait(rng: &mut Rng) -> u32 {
     match rng.below(4) {
-        0 => rng.pick(&[0, 1, 6, 7, 8, 1_499, 1_500, 1_501]),
+        0 => rng.pick(&[0, 1, 6, 7, 8, 1_499, 1_500, 1_501, 4_999, 5_000, 5_001]),
         1 => rng.pick(&[90_000, 750_000, 1_000_000, 8_000_000, u32::MAX - 1, u32::MAX]),
         2 => rng.below(100_000) as u32,
         _ => rng.word() as u32,

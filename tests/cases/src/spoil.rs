@@ -3,7 +3,7 @@
 use model::{State, LONGEST_REGION, LONGEST_SCRIPT};
 
 use crate::case::{Line, On};
-use crate::{malform, scripts, size, states, Rng, F25L008A, F25L05PA};
+use crate::{malform, pending, scripts, size, states, Rng, F25L008A, F25L05PA};
 
 /// A set of refusal numbers.
 #[derive(Clone, Copy, Default)]
@@ -65,15 +65,16 @@ pub fn room(rng: &mut Rng, length: usize) -> usize {
     }
 }
 
-/// Busy, in AAI or in power-down.
+/// Busy, in AAI or in power-down; on the 05PA often in a status write.
 pub fn not_at_rest(rng: &mut Rng, chip: u8) -> State {
-    match rng.below(2) {
+    match rng.below(3) {
         0 => states::busy(rng, chip),
-        _ if chip == F25L008A => {
+        1 if chip == F25L05PA => pending::state(rng),
+        _ if chip == F25L05PA => states::in_power_down(rng),
+        _ => {
             let busy = rng.coin();
             states::in_aai(rng, busy)
         }
-        _ => states::in_power_down(rng),
     }
 }
 

@@ -2,7 +2,7 @@
 
 use model::{Calls, Model, State};
 
-use crate::{first_protected, Rng, BORDERS, CHIPS, F25L008A, F25L05PA};
+use crate::{first_protected, pending, Rng, BORDERS, CHIPS, F25L008A, F25L05PA};
 
 /// At rest: not busy, not in AAI, not in power-down; any protection, WEL and armed as they may.
 pub fn at_rest(rng: &mut Rng, chip: u8) -> State {
@@ -18,7 +18,11 @@ pub fn at_rest(rng: &mut Rng, chip: u8) -> State {
     }
 }
 
+/// Busy, on the 05PA one time in three with a status write.
 pub fn busy(rng: &mut Rng, chip: u8) -> State {
+    if chip == F25L05PA && rng.one_in(3) {
+        return pending::state(rng);
+    }
     let most = longest(chip);
     let left = match rng.below(3) {
         0 => rng.pick(&[1, 6, 7, 8, 1_499, 1_500, 89_999, 90_000, 750_000, most - 1, most]),
@@ -56,7 +60,16 @@ pub fn in_power_down(rng: &mut Rng) -> State {
 
 /// The same with nothing under way and WEL 0.
 pub fn disabled(state: State) -> State {
-    State { wel: false, aai: false, armed: false, left: 0, next: 0, ..state }
+    State {
+        wel: false,
+        aai: false,
+        armed: false,
+        pending: false,
+        pending_bits: 0,
+        left: 0,
+        next: 0,
+        ..state
+    }
 }
 
 pub fn sound(rng: &mut Rng, chip: u8) -> State {
@@ -72,8 +85,11 @@ pub fn sound(rng: &mut Rng, chip: u8) -> State {
     }
 }
 
-/// A sound state spoilt in one field or more.
+/// A sound state spoilt in one field or more; one time in three only in what it says of a status write.
 pub fn unsound(rng: &mut Rng) -> State {
+    if rng.one_in(3) {
+        return pending::unsound(rng);
+    }
     loop {
         let chip = rng.pick(&CHIPS);
         let mut state = sound(rng, chip);
@@ -87,19 +103,20 @@ pub fn unsound(rng: &mut Rng) -> State {
 }
 
 fn spoil(rng: &mut Rng, state: &mut State) {
-    match rng.below(12) {
-        0 => state.chip = rng.pick(&[0, 1, 4, 5, 6, 7, 8, 9, 255]),
-        1 => state.bp = rng.pick(&[8, 9, 15, 16, 128, 255]),
-        2 => state.tb ^= true,
-        3 => state.wel ^= true,
-        4 => state.aai ^= true,
-        5 => state.armed ^= true,
-        6 => state.power_down ^= true,
-        7 => state.left = longest(state.chip) + 1,
-        8 => state.left = rng.pick(&[1, 7, 8, 1_000_001, 8_000_000, 8_000_001, u32::MAX]),
-        9 => state.next = rng.pick(&BORDERS) as u32 + 2 - rng.below(5) as u32,
-        10 => state.next = rng.pick(&[0, 1, 2, 3, u32::MAX - 1, u32::MAX]),
-        _ => state.next ^= 1,
+    match rng.below(14) {
+        0 | 1 => state.chip = rng.pick(&[0, 1, 4, 5, 6, 7, 8, 9, 255]),
+        2 => state.bp = rng.pick(&[8, 9, 15, 16, 128, 255]),
+        3 => state.tb ^= true,
+        4 => state.wel ^= true,
+        5 => state.aai ^= true,
+        6 => state.armed ^= true,
+        7 => state.power_down ^= true,
+        8 => state.left = longest(state.chip) + 1,
+        9 => state.left = rng.pick(&[1, 7, 8, 1_000_001, 8_000_000, 8_000_001, u32::MAX]),
+        10 => state.next = rng.pick(&BORDERS) as u32 + 2 - rng.below(5) as u32,
+        11 => state.next = rng.pick(&[0, 1, 2, 3, u32::MAX - 1, u32::MAX]),
+        12 => state.next ^= 1,
+        _ => state.pending_bits ^= 1 << rng.below(8),
     }
 }
 

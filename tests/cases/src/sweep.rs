@@ -1,5 +1,5 @@
-//! The cases that are gone through one by one: chip numbers, books, lengths of slices, scripts,
-//! states and short frames.
+//! The cases that are gone through one by one: chip numbers, books, lengths of slices, scripts, status
+//! writes, states and short frames.
 
 use model::State;
 
@@ -7,6 +7,7 @@ use crate::book::BookSweep;
 use crate::case::{Case, Line, On};
 use crate::line_sweep::LineSweep;
 use crate::script_sweep::ScriptSweep;
+use crate::status_sweep::StatusSweep;
 use crate::{frames, size, Rng, CHIPS, F25L008A, F25L05PA};
 
 const CHIP_NUMBERS: usize = 256;
@@ -46,6 +47,7 @@ pub struct Sweep {
     books: BookSweep,
     lines: LineSweep,
     scripts: ScriptSweep,
+    status: StatusSweep,
     /// States, and whether WP is high, in which each short frame is tried.
     tried: Vec<(State, bool)>,
 }
@@ -58,14 +60,15 @@ impl Sweep {
             .flat_map(|state| [(state, false), (state, true)])
             .collect();
         let (books, lines, scripts) = (BookSweep::new(), LineSweep::new(), ScriptSweep::new());
-        Self { at: 0, books, lines, scripts, tried }
+        Self { at: 0, books, lines, scripts, status: StatusSweep::new(), tried }
     }
 
     /// How many cases it has.
     pub fn length() -> usize {
-        let Self { books, lines, scripts, tried, .. } = Self::new();
+        let Self { books, lines, scripts, status, tried, .. } = Self::new();
         let frames = OPCODES * LENGTHS * tried.len();
-        CHIP_NUMBERS + books.length() + lines.length() + scripts.length() + STATES + frames
+        let others = books.length() + lines.length() + scripts.length() + status.length();
+        CHIP_NUMBERS + others + STATES + frames
     }
 
     pub fn next(&mut self, rng: &mut Rng) -> Option<Case> {
@@ -87,8 +90,12 @@ impl Sweep {
             return Some(self.scripts.case(at, rng));
         }
         at -= self.scripts.length();
+        if at < self.status.length() {
+            return Some(self.status.case(at, rng));
+        }
+        at -= self.status.length();
         if at < STATES {
-            return Some(state_case(at, rng));
+            return Some(passing(state(at), rng));
         }
         at -= STATES;
         let (state, wp_high) = *self.tried.get(at / (OPCODES * LENGTHS))?;
@@ -113,27 +120,44 @@ pub fn chips(chip: u8) -> [On; 4] {
     [rest, busy, unsound, short]
 }
 
-/// Power-up or time on the state with this number.
-fn state_case(number: usize, rng: &mut Rng) -> Case {
+/// The digits of a number, the lowest first, each by its base.
+pub fn digits(number: usize) -> impl FnMut(usize) -> usize {
     let mut rest = number;
-    let mut digit = |base: usize| {
+    move |base| {
         let digit = rest % base;
         rest /= base;
         digit
-    };
+    }
+}
+
+/// The state with this number, in which no status write is pending.
+fn state(number: usize) -> State {
+    let mut digit = digits(number);
     let flags = digit(FLAGS);
-    let state = State {
+    State {
+        left: LEFTS[digit(LEFTS.len())],
+        next: NEXTS[digit(NEXTS.len())],
+        bp: LEVELS[digit(LEVELS.len())],
+        chip: NUMBERS[digit(NUMBERS.len())],
+        ..flagged(flags)
+    }
+}
+
+/// With these flags of six.
+pub fn flagged(flags: usize) -> State {
+    State {
         tb: flags & 1 != 0,
         bpl: flags & 2 != 0,
         wel: flags & 4 != 0,
         aai: flags & 8 != 0,
         armed: flags & 16 != 0,
         power_down: flags & 32 != 0,
-        left: LEFTS[digit(LEFTS.len())],
-        next: NEXTS[digit(NEXTS.len())],
-        bp: LEVELS[digit(LEVELS.len())],
-        chip: NUMBERS[digit(NUMBERS.len())],
-    };
+        ..State::default()
+    }
+}
+
+/// Power-up or time.
+pub fn passing(state: State, rng: &mut Rng) -> Case {
     let left = state.left;
     match rng.below(4) {
         0 => Case::PowerUp { state },
@@ -143,7 +167,8 @@ fn state_case(number: usize, rng: &mut Rng) -> Case {
     }
 }
 
-/// For a chip: at rest in every way and at several levels, busy, in AAI, in power-down.
+/// For a chip: at rest in every way and at several levels, busy, in AAI, in power-down, in a status
+/// write.
 fn tried(chip: u8) -> Vec<State> {
     let new = State { chip, ..State::default() };
     let wel = State { wel: true, ..new };
@@ -170,6 +195,10 @@ fn tried(chip: u8) -> Vec<State> {
         states.push(State { tb: true, bp: 6, ..wel });
         states.push(State { power_down: true, ..new });
         states.push(State { power_down: true, ..wel });
+        let pending = State { pending: true, left: 5_000, ..wel };
+        states.push(State { pending_bits: 0xBC, ..pending });
+        states.push(State { bp: 7, tb: true, bpl: true, ..pending });
+        states.push(State { bp: 5, pending_bits: 0x08, left: 1_000_000, ..pending });
     }
     states
 }

@@ -83,6 +83,7 @@ fn nothing_turns_unread(scripts: &[Script], counts: &mut Counts) -> bool {
     for script in scripts {
         let found = unread.run(script);
         counts.note_tested(script.state.chip, &found.tested);
+        counts.note_cycles(&found.cycles);
         if !found.is_good() {
             println!("{found}\n{script}");
             return false;

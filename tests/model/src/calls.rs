@@ -1,6 +1,8 @@
 //! The calls of 01 and 02 and what they give back.
 
-/// A chip's state; `bp` is BP2 BP1 BP0 as a number, `left` the microseconds of BUSY left.
+/// A chip's state; `bp` is BP2 BP1 BP0 as a number, `left` the microseconds of BUSY left. While a
+/// status write is `pending`, `pending_bits` are those that come when it ends, in their places in the
+/// status register.
 #[repr(C)]
 #[derive(Clone, Copy, Debug, Default, PartialEq, Eq)]
 pub struct State {
@@ -12,6 +14,8 @@ pub struct State {
     pub aai: bool,
     pub armed: bool,
     pub power_down: bool,
+    pub pending: bool,
+    pub pending_bits: u8,
     pub left: u32,
     pub next: u32,
 }

@@ -49,6 +49,8 @@ pub struct Chip {
     pub aai: bool,
     /// Whether it has TB and power-down, and keeps its protection bits without power.
     pub tb: bool,
+    /// How long a status write takes; 0 where it is done at once.
+    pub status_time: u32,
     pub program_time: u32,
     pub block_time: u32,
     /// Of all operations the longest.
@@ -59,6 +61,8 @@ pub struct Chip {
 }
 
 pub const SECTOR_TIME: u32 = 90_000;
+/// 004, "Erase and programming performance": write status register time, T_W, typical 5 ms (02, A4).
+pub const STATUS_TIME: u32 = 5_000;
 pub const WORD_TIME: u32 = 7;
 
 pub static F25L008A: Chip = Chip {
@@ -70,6 +74,7 @@ pub static F25L008A: Chip = Chip {
     pages: false,
     aai: true,
     tb: false,
+    status_time: 0,
     program_time: 7,
     block_time: 1_000_000,
     chip_time: 8_000_000,
@@ -87,6 +92,7 @@ pub static F25L05PA: Chip = Chip {
     pages: true,
     aai: false,
     tb: true,
+    status_time: STATUS_TIME,
     program_time: 1_500,
     block_time: 750_000,
     chip_time: 1_000_000,

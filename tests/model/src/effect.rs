@@ -5,6 +5,7 @@ use core::ops::Range;
 use crate::chip::{Chip, Kind, BLOCK, PAGE, SECTOR};
 use crate::fault::Fault;
 use crate::frame::{address, word_address};
+use crate::state::refusal;
 use crate::State;
 
 /// Data to program from an address up.
@@ -79,6 +80,14 @@ impl<'a> Effect<'a> {
             Effect::Nothing => 0,
             Effect::Program { low, high } => low.data.len() + high.data.len(),
             Effect::Erase(range) => range.len(),
+        }
+    }
+
+    /// Whether it may be cut with this mask.
+    pub fn accept_mask(&self, mask: &[u8]) -> Result<(), u32> {
+        match mask.len() == self.length() {
+            true => Ok(()),
+            false => Err(refusal::MASK),
         }
     }
 

@@ -42,6 +42,16 @@ pub enum Fault {
     FirstSectorUnprotected,
     /// BP2 protects the 05PA.
     Bp2Protects05pa,
+    /// On the 008A level 001 protects half a block, and each further one double that.
+    HalfBlocksProtected,
+    /// Level 000 of the 008A protects the upper block.
+    Level0ProtectsABlock,
+    /// Levels 110 and 111 of the 008A protect nothing.
+    Levels6And7Open,
+    /// Left doesn't fall with the time that passes.
+    NoTimePasses,
+    /// The end of a script is told as a refusal, with number 0.
+    EndIsARefusal,
     /// The 05PA loses its protection bits at power-off.
     ProtectionForgotten,
     /// AAI goes on at the first protected address.
@@ -206,6 +216,92 @@ pub enum Fault {
     RefusedCutClearsDriven,
     /// A script that is refused does.
     RefusedRunClearsDriven,
+
+    // Of the status write that takes time (02, A4).
+    /// It takes none on the 05PA either.
+    StatusAtOnceOn05pa,
+    /// It takes time on the 008A too.
+    StatusCycleOn008a,
+    /// It takes the sheet's longest time.
+    StatusTime15000,
+    /// It takes the longest time at a low voltage.
+    StatusTime40000,
+    /// While it runs BP is the new one already.
+    BpAtOnce,
+    /// TB is.
+    TbAtOnce,
+    /// BPL is.
+    BplAtOnce,
+    /// While it runs 05 shows the new bits.
+    PendingShown,
+    /// While it runs other frames are taken, and protection goes by the new bits.
+    PendingProtectsAtOnce,
+    /// A plan is made while it runs.
+    PlannedWhilePending,
+    /// Its byte is kept with bits 0, 1 and 6.
+    PendingBitsRaw,
+    /// Its byte is kept without TB.
+    TbNotPending,
+    /// WEL falls when its frame ends.
+    StatusCycleClearsWel,
+    /// WEL is still 1 when its time is over.
+    StatusCycleLeavesWel,
+    /// It is still pending when its time is over.
+    PendingKept,
+    /// Its bits are still kept when its time is over.
+    PendingBitsKept,
+    /// Power-up takes the pending bits.
+    PowerUpTakesPending,
+    /// Power-up leaves it pending.
+    PowerUpStaysPending,
+    /// A state may have it pending at rest.
+    PendingAtRestSound,
+    /// A state may have bits that aren't pending.
+    BitsWithoutPendingSound,
+    /// A state may have bits 0, 1 and 6 among the pending ones.
+    PendingBitsUnmasked,
+    /// A state of the 008A may have it pending.
+    PendingOn008aSound,
+    /// A state with it pending may have 5,000 microseconds left at most.
+    PendingBounded,
+    /// A state with it pending has a bit among the pending ones.
+    PendingNothingUnsound,
+    /// Cut with a mask byte, each bit is the new one where that has 1.
+    StatusMaskBitwise,
+    /// Cut with any mask byte but 00, the bits are the new ones.
+    StatusMaskNonzero,
+    /// It may be cut with no mask: the bits are the old ones.
+    EmptyStatusMask,
+    /// It may be cut with a mask of two bytes: the first decides.
+    TwoByteStatusMask,
+    /// Cut with 00, the bits are the new ones.
+    StatusMask00Writes,
+    /// Cut with FF, the bits are the old ones.
+    StatusMaskFfKeeps,
+    /// An ignored 01 is cut with a mask byte.
+    IgnoredStatusMask,
+    /// An 01 of the 008A is.
+    StatusMaskOn008a,
+    /// An 05 is, while a status write runs.
+    StatusReadMask,
+    /// A cut one changes the array.
+    CutStatusTouchesArray,
+    /// Cut with FF, it leaves the chip busy.
+    CutStatusStaysBusy,
+    /// A plan doesn't wait for step 1's.
+    NoWaitAfterStep1,
+    /// A plan doesn't wait for step 4's.
+    NoWaitAfterStep4,
+    /// A plan waits before the 01.
+    WaitBefore01,
+    /// A plan waits for the sheet's longest time.
+    StatusWait15000,
+    /// A plan of the 008A has a wait behind each 01, of 0 microseconds.
+    StatusWaitOn008a,
+    /// A plan's microseconds are told without these waits.
+    StatusWaitsNotTimed,
+    /// A plan's length is.
+    StatusWaitsNotMeasured,
 }
 
 impl Fault {

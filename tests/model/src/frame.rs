@@ -6,6 +6,7 @@ use crate::fault::Fault;
 use crate::line::{Line, REST};
 use crate::reply;
 use crate::state::refusal;
+use crate::status_write;
 use crate::State;
 
 pub const LONGEST_FRAME: usize = 4_101;
@@ -70,7 +71,9 @@ pub fn verdict<const FAULT: u8>(
     if kind == Kind::Unknown {
         return Err(Reason::UnknownOpcode);
     }
-    let busy = state.left > 0 && !Fault::BusyNotAsked.within(FAULT);
+    let free = Fault::BusyNotAsked.within(FAULT)
+        || state.pending && Fault::PendingProtectsAtOnce.within(FAULT);
+    let busy = state.left > 0 && !free;
     if busy && kind != Kind::ReadStatus {
         return Err(Reason::Busy);
     }
@@ -168,7 +171,8 @@ pub fn run<const FAULT: u8>(
     }
 }
 
-/// Runs it and cuts the power; refuses a mask that isn't as long as the frame's target.
+/// Runs it and cuts the power; refuses a mask that isn't as long as the frame's target, or isn't a
+/// status write's.
 pub fn run_cut<const FAULT: u8>(
     chip: &Chip,
     state: &mut State,
@@ -181,8 +185,10 @@ pub fn run_cut<const FAULT: u8>(
     let verdict = verdict::<FAULT>(chip, state, wp_high, frame);
     let effect =
         verdict.map_or(Effect::Nothing, |kind| Effect::of::<FAULT>(chip, state, kind, frame));
-    if mask.len() != effect.length() {
-        return Err(refusal::MASK_LENGTH);
+    let writes_status = cuts_status::<FAULT>(chip, state, verdict, frame);
+    match writes_status {
+        true => status_write::accept_mask::<FAULT>(mask)?,
+        false => effect.accept_mask(mask)?,
     }
     if Fault::DrivenCheckedAfterMask.within(FAULT) && line.driven.len() != frame.len() {
         return Err(refusal::OUTPUT_LENGTH);
@@ -194,12 +200,37 @@ pub fn run_cut<const FAULT: u8>(
         Ok(kind) => {
             reply::show::<FAULT>(chip, state, kind, frame, array, line);
             effect.apply_cut::<FAULT>(array, mask);
+            let before = *state;
             take::<FAULT>(chip, state, kind, frame);
+            if state.pending && writes_status {
+                status_write::cut::<FAULT>(chip, state, &before, array, mask);
+            }
         }
         Err(_) => ignore::<FAULT>(chip, state, frame, array, line),
     }
-    *state = state.powered_up::<FAULT>(chip);
+    *state = match writes_status && Fault::CutStatusStaysBusy.within(FAULT) {
+        true => status_write::still_busy(chip, state.powered_up::<FAULT>(chip), mask),
+        false => state.powered_up::<FAULT>(chip),
+    };
     Ok(())
+}
+
+/// Whether the frame is a taken status write that takes time; then its mask is one byte.
+fn cuts_status<const FAULT: u8>(
+    chip: &Chip,
+    state: &State,
+    verdict: Result<Kind, Reason>,
+    frame: &[u8],
+) -> bool {
+    let taken = match verdict {
+        Ok(Kind::WriteStatus) => true,
+        Ok(Kind::ReadStatus) => state.pending && Fault::StatusReadMask.within(FAULT),
+        Err(_) if chip.kind(frame[0]) == Kind::WriteStatus => {
+            Fault::IgnoredStatusMask.within(FAULT)
+        }
+        _ => false,
+    };
+    taken && (chip.status_time::<FAULT>() > 0 || Fault::StatusMaskOn008a.within(FAULT))
 }
 
 /// The chip drives nothing, whatever the opcode.
@@ -238,13 +269,7 @@ fn take<const FAULT: u8>(chip: &Chip, state: &mut State, kind: Kind, frame: &[u8
             state.next = 0;
         }
         Kind::EnableStatusWrite => state.armed = true,
-        Kind::WriteStatus => {
-            let byte = frame[1];
-            state.bp = byte >> 2 & 7;
-            state.tb = chip.tb && byte & 0x20 != 0;
-            state.bpl = byte & 0x80 != 0;
-            state.wel &= Fault::StatusWriteLeavesWel.within(FAULT);
-        }
+        Kind::WriteStatus => *state = state.status_written::<FAULT>(chip, frame[1]),
         Kind::EraseSector => state.left = SECTOR_TIME,
         Kind::EraseBlock => state.left = chip.block_time,
         Kind::EraseChip => state.left = chip.chip_time,

@@ -27,13 +27,14 @@ mod reply;
 mod salvage;
 mod script;
 mod state;
+mod status_write;
 mod words;
 
 pub use book::{BOOK, SCENES};
 pub use calls::{
     kind, Answer, Calls, Planned, Ran, Record, Returned, Salvaged, State, Surveyed, Told,
 };
-pub use chip::{Chip, Kind, SECTOR};
+pub use chip::{Chip, Kind, SECTOR, STATUS_TIME};
 pub use fault::{Fault, SalvageFault};
 pub use flags::{names_back, names_is_read, names_mark, names_move};
 pub use frame::{Reason, LONGEST_FRAME};
@@ -247,5 +248,13 @@ impl Model {
             Err(_) => 0,
         };
         Some(length)
+    }
+
+    /// Whether the frame is a status write that a sound chip takes and that takes time: then it is cut
+    /// with one byte, 00 or FF.
+    pub fn begins_status_write(state: &State, wp_high: bool, frame: &[u8]) -> Option<bool> {
+        let chip = state.sound_chip::<RIGHT>()?;
+        let verdict = frame::verdict::<RIGHT>(chip, state, wp_high, frame);
+        Some(verdict == Ok(Kind::WriteStatus) && chip.status_time > 0)
     }
 }

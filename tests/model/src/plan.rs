@@ -37,7 +37,7 @@ pub fn plan<const FAULT: u8>(
     if wanted.len() > LONGEST_REGION || start > chip.size || wanted.len() > chip.size - start {
         return Err(refusal::REGION);
     }
-    if !state.at_rest() {
+    if !state.at_rest() && !(state.pending && Fault::PlannedWhilePending.within(FAULT)) {
         return Err(refusal::NOT_AT_REST);
     }
     let old = &array[start..][..wanted.len()];
@@ -67,8 +67,8 @@ pub fn plan<const FAULT: u8>(
         return Err(refusal::ROOM);
     }
     update.records::<FAULT>(&mut Writer(buffer));
-    if Fault::StepsNotCounted.within(FAULT) && unprotects {
-        totals.frames -= 4;
+    if unprotects {
+        totals.forget::<FAULT>(chip);
     }
     Ok(Planned {
         number: 0,
@@ -84,7 +84,7 @@ impl Update<'_> {
         if self.old == self.wanted {
             return;
         }
-        self.unprotect(to);
+        self.unprotect::<FAULT>(to);
         if self.chip.aai {
             self.word_runs::<FAULT>(to);
         } else {
@@ -94,10 +94,11 @@ impl Update<'_> {
     }
 
     /// Step 1, where it comes.
-    fn unprotect(&self, to: &mut impl Records) {
+    fn unprotect<const FAULT: u8>(&self, to: &mut impl Records) {
         if self.unprotects {
             let State { tb, bpl, .. } = self.state;
-            self.status_write(State { bp: 0, tb, bpl, ..State::default() }, to);
+            let register = State { bp: 0, tb, bpl, ..State::default() };
+            self.status_write::<FAULT>(register, Fault::NoWaitAfterStep1, to);
         }
     }
 
@@ -106,14 +107,34 @@ impl Update<'_> {
         if self.unprotects {
             let State { bp, tb, bpl, .. } = self.state;
             let bpl = bpl && !Fault::LockNotRestored.within(FAULT);
-            self.status_write(State { bp, tb, bpl, ..State::default() }, to);
+            let register = State { bp, tb, bpl, ..State::default() };
+            self.status_write::<FAULT>(register, Fault::NoWaitAfterStep4, to);
         }
     }
 
-    /// Steps 1 and 4: arm, then write what the status register is to hold.
-    fn status_write(&self, register: State, to: &mut impl Records) {
+    /// Steps 1 and 4: arm, write what the status register is to hold, and wait where that takes time
+    /// (02, A4); a wrong copy doesn't.
+    fn status_write<const FAULT: u8>(
+        &self,
+        register: State,
+        unawaited: Fault,
+        to: &mut impl Records,
+    ) {
+        let time = match self.chip.status_time::<FAULT>() {
+            0 => 0,
+            _ if Fault::StatusWait15000.within(FAULT) => 15_000,
+            time => time,
+        };
+        let waits = time > 0 || Fault::StatusWaitOn008a.within(FAULT);
+        let waits = waits && !unawaited.within(FAULT);
         to.frame(&[if self.chip.aai { 0x50 } else { 0x06 }], &[]);
+        if waits && Fault::WaitBefore01.within(FAULT) {
+            to.wait(time);
+        }
         to.frame(&[0x01, register.status()], &[]);
+        if waits && !Fault::WaitBefore01.within(FAULT) {
+            to.wait(time);
+        }
     }
 
     /// Step 2: the aligned words holding a changing byte, in runs of neighbours.
@@ -168,7 +189,7 @@ impl Update<'_> {
             if let Some(changing) = page.changing() {
                 if Fault::PagesUnprotectedApart.within(FAULT) && !first {
                     self.protect::<FAULT>(to);
-                    self.unprotect(to);
+                    self.unprotect::<FAULT>(to);
                 }
                 page.program::<FAULT>(changing, self.chip.program_time, to);
                 first = false;

@@ -90,6 +90,7 @@ pub fn read<const FAULT: u8>(script: &[u8], offset: usize) -> Record {
             next: script.len() - rest.len(),
             ..Record::default()
         },
+        Ok(Next::End) if Fault::EndIsARefusal.within(FAULT) => refused(0),
         Ok(Next::End) => Record { kind: kind::END, next: offset, ..Record::default() },
         Err(bad) => refused(bad.number()),
     }

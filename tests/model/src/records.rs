@@ -1,5 +1,8 @@
 //! Where the records of a plan go.
 
+use crate::chip::Chip;
+use crate::fault::Fault;
+
 /// Takes a plan's records: first they are only counted, then written.
 pub trait Records {
     /// A frame, given in two parts.
@@ -13,6 +16,22 @@ pub struct Totals {
     pub length: usize,
     pub frames: u32,
     pub microseconds: u32,
+}
+
+impl Totals {
+    /// Only a wrong copy leaves out what steps 1 and 4 come to: their frames, or a part of their waits.
+    pub fn forget<const FAULT: u8>(&mut self, chip: &Chip) {
+        let waits = if chip.status_time > 0 { 2 } else { 0 };
+        if Fault::StepsNotCounted.within(FAULT) {
+            self.frames -= 4;
+        }
+        if Fault::StatusWaitsNotTimed.within(FAULT) {
+            self.microseconds -= waits * chip.status_time;
+        }
+        if Fault::StatusWaitsNotMeasured.within(FAULT) {
+            self.length -= 6 * waits as usize;
+        }
+    }
 }
 
 impl Records for Totals {

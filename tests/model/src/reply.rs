@@ -19,7 +19,7 @@ pub fn show<const FAULT: u8>(
     match kind {
         Kind::ReadStatus => {
             line.silent::<FAULT>(1, Fault::HeaderDriven);
-            line.show::<FAULT>(REST, Some(state.status()));
+            line.show::<FAULT>(REST, Some(state.shown::<FAULT>(chip).status()));
         }
         Kind::Read => {
             line.silent::<FAULT>(4, Fault::HeaderDriven);

@@ -11,7 +11,7 @@ pub mod refusal {
     pub const ARRAY_LENGTH: u32 = 2;
     pub const FRAME_LENGTH: u32 = 3;
     pub const OUTPUT_LENGTH: u32 = 4;
-    pub const MASK_LENGTH: u32 = 5;
+    pub const MASK: u32 = 5;
     pub const REGION: u32 = 6;
     pub const SAME_SECTOR: u32 = 6;
     pub const NOT_AT_REST: u32 = 7;
@@ -37,7 +37,16 @@ impl State {
         if !chip.tb || Fault::ProtectionForgotten.within(FAULT) {
             return State::new(chip);
         }
-        State { bp: self.bp, tb: self.tb, bpl: self.bpl, ..State::new(chip) }
+        let State { bp, tb, bpl, pending, pending_bits, .. } =
+            match self.pending && Fault::PowerUpTakesPending.within(FAULT) {
+                true => self.status_ended::<FAULT>(chip),
+                false => *self,
+            };
+        let new = State { bp, tb, bpl, ..State::new(chip) };
+        match Fault::PowerUpStaysPending.within(FAULT) {
+            true => State { pending, pending_bits, ..new },
+            false => new,
+        }
     }
 
     /// The first protected address; the size where nothing is protected. BP is at most 7.
@@ -45,11 +54,27 @@ impl State {
         if Fault::Bp2Protects05pa.within(FAULT) && chip.tb && self.bp >= 4 {
             return 0;
         }
-        let first = chip.first_protected[usize::from(self.bp & 7)];
+        let bp = match self.pending && Fault::PendingProtectsAtOnce.within(FAULT) {
+            true => self.with_bits(chip, self.pending_bits).bp,
+            false => self.bp,
+        };
+        let first = self.first_at::<FAULT>(chip, bp & 7);
         if Fault::FirstSectorUnprotected.within(FAULT) && first < chip.size as u32 {
             return first + SECTOR as u32;
         }
         first
+    }
+
+    /// The first protected address of a level, by the chip's table.
+    fn first_at<const FAULT: u8>(&self, chip: &Chip, level: u8) -> u32 {
+        let (size, first) = (chip.size as u32, chip.first_protected[usize::from(level)]);
+        match level {
+            _ if !chip.aai => first,
+            0 if Fault::Level0ProtectsABlock.within(FAULT) => chip.first_protected[1],
+            1..=5 if Fault::HalfBlocksProtected.within(FAULT) => size - (size - first) / 2,
+            6.. if Fault::Levels6And7Open.within(FAULT) => size,
+            _ => first,
+        }
     }
 
     /// The chip, if the state is sound.
@@ -66,6 +91,7 @@ impl State {
             && self.left <= chip.chip_time
             && (!busy || self.wel && !self.armed && !self.power_down)
             && !(self.armed && self.power_down)
+            && self.is_pending_sound::<FAULT>(chip)
             && if self.aai { self.sound_in_aai::<FAULT>(chip) } else { self.next == 0 };
         sound.then_some(chip)
     }
@@ -96,9 +122,15 @@ impl State {
 
     /// The state when so many microseconds have passed.
     pub(crate) fn after<const FAULT: u8>(&self, chip: &Chip, microseconds: u32) -> State {
+        if Fault::NoTimePasses.within(FAULT) {
+            return *self;
+        }
         let left = self.left.saturating_sub(microseconds);
         if self.left == 0 || left > 0 {
             return State { left, ..*self };
+        }
+        if self.pending {
+            return self.status_ended::<FAULT>(chip);
         }
         let goes_on =
             Fault::AaiPassesBorder.within(FAULT) || self.next < self.first_protected::<FAULT>(chip);

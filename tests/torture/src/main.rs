@@ -1,9 +1,11 @@
 //! Power cuts everywhere in plans that the library makes and runs: `torture [seed] [plans]`.
 
+mod cuts;
 mod history;
 mod line;
 mod naming;
 mod setting;
+mod status;
 mod tally;
 mod trial;
 
@@ -16,6 +18,9 @@ use setting::{Kind, Setting};
 use tally::Tally;
 use trial::Trial;
 use zeradok::Library;
+
+/// A copy's name, and what it came to.
+type Came = (&'static str, Result<(), String>);
 
 const KINDS: [Kind; 5] = [Kind::Update, Kind::Mark, Kind::NameMark, Kind::NameMove, Kind::NameBack];
 const SEED: u64 = 1;
@@ -58,24 +63,48 @@ fn endures(kind: Kind, seed: u64, plans: u64) -> bool {
     rare.is_empty()
 }
 
-/// Whether less room, and a wrong copy of the model, come to grief.
+/// Whether less room, and wrong copies of the model, come to grief.
 fn is_sharp(kind: Kind, seed: u64, plans: u64) -> bool {
     let tally = &mut Tally::default();
     let right = Names::of::<Library>();
     let less_room = torture::<Library>(kind, &right, seed, plans, MORE_ROOM - 1, tally);
-    let (name, wrong) = wrong(kind, seed, plans);
-    for (name, result) in [("with 21 bytes more", &less_room), (name, &wrong)] {
+    let mut wrong = vec![wrong(kind, seed, plans)];
+    if kind == Kind::Update {
+        wrong.extend(wrong_status_writes(seed, plans));
+    }
+    let sharp = wrong.iter().all(|(_, result)| result.is_err());
+    let enough = less_room.as_ref().is_err_and(|what| what.contains("refusal 10"));
+    for (name, result) in [("with 21 bytes more", less_room)].into_iter().chain(wrong) {
         match result {
             Ok(()) => println!("NOT TOLD APART: {kind:?} {name}"),
-            Err(what) => println!("fails, as it should, {kind:?} {name}: {}", first_line(what)),
+            Err(what) => println!("fails, as it should, {kind:?} {name}: {}", first_line(&what)),
         }
     }
-    less_room.is_err_and(|what| what.contains("refusal 10")) && wrong.is_err()
+    enough && sharp
+}
+
+/// What copies come to that are wrong in what becomes of a status write (02, A4), cut or not awaited.
+fn wrong_status_writes(seed: u64, plans: u64) -> Vec<Came> {
+    type Runs = fn(Kind, &Names, u64, u64, usize, &mut Tally) -> Result<(), String>;
+    let copies: [(&str, Runs); 7] = [
+        ("pending bits taken", torture::<Model<{ Fault::PowerUpTakesPending as u8 }>>),
+        ("bits written with 00", torture::<Model<{ Fault::StatusMask00Writes as u8 }>>),
+        ("bits kept with FF", torture::<Model<{ Fault::StatusMaskFfKeeps as u8 }>>),
+        ("busy after a cut", torture::<Model<{ Fault::CutStatusStaysBusy as u8 }>>),
+        ("array changed by a cut", torture::<Model<{ Fault::CutStatusTouchesArray as u8 }>>),
+        ("step 1 not awaited", torture::<Model<{ Fault::NoWaitAfterStep1 as u8 }>>),
+        ("step 4 not awaited", torture::<Model<{ Fault::NoWaitAfterStep4 as u8 }>>),
+    ];
+    let right = Names::of::<Library>();
+    let come = |(name, torture): (&'static str, Runs)| {
+        (name, torture(Kind::Update, &right, seed, plans, MORE_ROOM, &mut Tally::default()))
+    };
+    copies.map(come).into()
 }
 
 /// What a copy of the model comes to that stores bytes, counts a scene's bit from the top, writes
 /// marks and names by one plan, or sets scenes read that no record is of.
-fn wrong(kind: Kind, seed: u64, plans: u64) -> (&'static str, Result<(), String>) {
+fn wrong(kind: Kind, seed: u64, plans: u64) -> Came {
     type Storing = Model<{ Fault::ByteStored as u8 }>;
     type FromTop = Model<{ Fault::SceneBitFromTop as u8 }>;
     let tally = &mut Tally::default();

@@ -3,9 +3,10 @@
 use std::collections::BTreeMap;
 use std::fmt;
 
-use cases::CHIPS;
+use cases::{CHIPS, F25L05PA};
 
 use crate::setting::{Ask, Kind, Setting};
+use crate::status::Step;
 
 #[derive(Clone, Copy, Debug, PartialEq, Eq, PartialOrd, Ord)]
 enum Met {
@@ -17,6 +18,12 @@ enum Met {
     During { chip: u8, wp_high: bool, step_1: bool },
     /// One of these, by how much has passed.
     Passed { chip: u8, part: Part },
+    /// A cut inside a status write that takes time, by its mask.
+    InsideStatus { wp_high: bool, step: Step, mask: u8 },
+    /// A cut when some of its wait has passed.
+    DuringStatus { wp_high: bool, step: Step, part: Part },
+    /// A second plan of the 05PA that is as long as the first, with step 1.
+    AsLong,
     /// A cut, or a plan, of this sort.
     Of { chip: u8, sort: Sort },
     /// A second plan that needs all the room it is given.
@@ -185,13 +192,25 @@ impl Tally {
         });
     }
 
-    pub fn during(&mut self, setting: &Setting, part: Part) {
-        let chip = setting.state.chip;
-        self.count(Met::During { chip, wp_high: setting.wp_high, step_1: setting.needs_step_1() });
-        self.count(Met::Passed { chip, part });
+    pub fn inside_status(&mut self, setting: &Setting, step: Step, mask: u8) {
+        self.count(Met::InsideStatus { wp_high: setting.wp_high, step, mask });
     }
 
-    pub fn again(&mut self, length: usize, room: usize) {
+    /// Of a wait, which may be one of a status write.
+    pub fn during(&mut self, setting: &Setting, status: Option<Step>, part: Part) {
+        let (chip, wp_high) = (setting.state.chip, setting.wp_high);
+        self.count(Met::During { chip, wp_high, step_1: setting.needs_step_1() });
+        self.count(Met::Passed { chip, part });
+        if let Some(step) = status {
+            self.count(Met::DuringStatus { wp_high, step, part });
+        }
+    }
+
+    pub fn again(&mut self, setting: &Setting, length: usize, first_length: usize, room: usize) {
+        let step_1 = setting.state.chip == F25L05PA && setting.needs_step_1();
+        if step_1 && length == first_length {
+            self.count(Met::AsLong);
+        }
         if length == room {
             self.count(Met::AllRoomNeeded);
         }
@@ -202,7 +221,13 @@ impl Tally {
 
     /// What came up less often than it has to.
     pub fn too_rare(&self, kind: Kind) -> Vec<String> {
-        let mut all = vec![Met::AllRoomNeeded, Met::NothingLeft];
+        let mut all = vec![Met::AllRoomNeeded, Met::NothingLeft, Met::AsLong];
+        for wp_high in [false, true] {
+            for step in [Step::Unprotects, Step::Protects] {
+                all.extend([0x00, 0xFF].map(|mask| Met::InsideStatus { wp_high, step, mask }));
+                all.extend(PARTS.map(|part| Met::DuringStatus { wp_high, step, part }));
+            }
+        }
         for chip in CHIPS {
             all.extend(Sort::all(kind).iter().map(|&sort| Met::Of { chip, sort }));
             all.extend(PARTS.map(|part| Met::Passed { chip, part }));

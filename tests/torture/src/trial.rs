@@ -4,12 +4,14 @@ use std::marker::PhantomData;
 
 use cases::literal::bytes_text;
 use cases::names::Names;
-use cases::{book, Rng};
+use cases::{book, Rng, F25L05PA};
 use model::{kind, Calls, Planned, Ran, State};
 
+use crate::cuts::{masks, parts, programmed};
 use crate::line::Line;
 use crate::setting::{Ask, Setting};
-use crate::tally::{Tally, PARTS};
+use crate::status::{self, Bits};
+use crate::tally::Tally;
 
 /// Longer than any plan's script.
 const ROOMY: usize = 27_000;
@@ -82,7 +84,7 @@ impl<'a, C: Calls> Trial<'a, C> {
             let record = records.get(index);
             let edge = index == 0 || record.is_none();
             if edge || index % step == offset {
-                self.cut_here(state, script.len(), tally)
+                self.cut_here(state, Bits::of(&state), script.len(), tally)
                     .map_err(|what| format!("cut before record {index}: {what}"))?;
                 tally.between(self.setting, index, records.len());
                 match record.map(|record| record.what) {
@@ -104,7 +106,8 @@ impl<'a, C: Calls> Trial<'a, C> {
         Ok(())
     }
 
-    /// Cuts inside a frame, if it programs with several masks.
+    /// Cuts inside a frame: one that programs with several masks, a status write that takes time with
+    /// the two that it has.
     fn cut_inside(
         &mut self,
         state: State,
@@ -115,11 +118,11 @@ impl<'a, C: Calls> Trial<'a, C> {
     ) -> Result<(), String> {
         let so_far = self.array[self.setting.region()].to_vec();
         let programmed = programmed(frame);
-        for round in 0..if programmed > 0 { 4 } else { 1 } {
-            let mask = match round {
-                0 => vec![0x00; programmed],
-                1 => vec![0xFF; programmed],
-                _ => rng.bytes(programmed),
+        let status = status::write(state.chip, frame);
+        for mask in masks(rng, programmed, status.is_some()) {
+            let bits = match status {
+                Some((_, new)) if mask == [0xFF] => new,
+                _ => Bits::of(&state),
             };
             let mut cut = state;
             let wp_high = self.setting.wp_high;
@@ -128,16 +131,20 @@ impl<'a, C: Calls> Trial<'a, C> {
             let number = C::cut_frame(&mut cut, wp_high, self.array, frame, output, driven, &mask);
             accepted(number, "the cut frame")
                 .and_then(|()| line.check_silent())
+                .and_then(|()| bits.check(&cut))
                 .and_then(|()| self.again(cut, first_length, tally))
                 .map_err(|what| format!("mask {}: {what}", bytes_text(&mask)))?;
             self.restore(&so_far);
-            tally.inside(self.setting, programmed);
+            match status {
+                Some((step, _)) => tally.inside_status(self.setting, step, mask[0]),
+                None => tally.inside(self.setting, programmed),
+            }
         }
         Ok(())
     }
 
-    /// Cuts when some of a wait has passed, two parts of it by chance: before its end the chip is
-    /// busy, and at its end it is not.
+    /// Cuts when some of a wait has passed, two parts of it by chance, of a status write's every one:
+    /// before its end the chip is busy, and at its end it is not.
     fn cut_during(
         &mut self,
         state: State,
@@ -146,31 +153,38 @@ impl<'a, C: Calls> Trial<'a, C> {
         rng: &mut Rng,
         tally: &mut Tally,
     ) -> Result<(), String> {
-        let first = rng.below(PARTS.len());
-        for part in [PARTS[first], PARTS[(first + 2) % PARTS.len()]] {
+        let status = status::running(&state);
+        for part in parts(rng, status.is_some()) {
             let passed = part.of(microseconds);
             let waited = C::wait(state, passed);
+            let bits = match status {
+                Some(_) if passed == microseconds => Bits::pending(&state),
+                _ => Bits::of(&state),
+            };
             accepted(waited.number, "the wait")
                 .and_then(|()| match (waited.state.left > 0) == (passed < microseconds) {
-                    true => self.cut_here(waited.state, first_length, tally),
+                    true => self.cut_here(waited.state, bits, first_length, tally),
                     false => Err("BUSY and the wait don't end together".into()),
                 })
                 .map_err(|what| format!("{passed} of {microseconds} us: {what}"))?;
-            tally.during(self.setting, part);
+            tally.during(self.setting, status, part);
         }
         Ok(())
     }
 
-    /// The power goes and comes back, and the plan is made again; the region is then put back.
+    /// The power goes and comes back, with these bits where the chip keeps them, and the plan is made
+    /// again; the region is then put back.
     fn cut_here(
         &mut self,
         state: State,
+        bits: Bits,
         first_length: usize,
         tally: &mut Tally,
     ) -> Result<(), String> {
         let so_far = self.array[self.setting.region()].to_vec();
         let powered = C::power_up(state);
         accepted(powered.number, "the power-up")?;
+        bits.check(&powered.state)?;
         self.again(powered.state, first_length, tally)?;
         self.restore(&so_far);
         Ok(())
@@ -202,7 +216,8 @@ impl<'a, C: Calls> Trial<'a, C> {
             let room = if same { first_length + self.more_room } else { ROOMY };
             let (planned, script) = self.plan(state, room)?;
             if same {
-                tally.again(script.len(), room);
+                tally.again(self.setting, script.len(), first_length, room);
+                check_length(state.chip, script.len(), first_length)?;
             }
             state = self.finish(state, &planned, &script, &wanted)?;
             if script.is_empty() || !matches!(self.setting.ask, Ask::Naming(_)) {
@@ -340,12 +355,12 @@ impl<'a, C: Calls> Trial<'a, C> {
     }
 }
 
-/// How many bytes a plan's frame programs.
-fn programmed(frame: &[u8]) -> usize {
-    match (frame[0], frame.len()) {
-        (0xAD, _) => 2,
-        (0x02, length) => length - 4,
-        _ => 0,
+/// On the chip that keeps its bits the same plan is never longer after a cut: it needs step 1 only if it
+/// did before.
+fn check_length(chip: u8, length: usize, first_length: usize) -> Result<(), String> {
+    match chip == F25L05PA && length > first_length {
+        true => Err(format!("{length} bytes after a cut, {first_length} before")),
+        false => Ok(()),
     }
 }
 

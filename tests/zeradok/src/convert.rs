@@ -13,6 +13,8 @@ impl From<model::State> for binding::State {
             aai: state.aai.into(),
             armed: state.armed.into(),
             power_down: state.power_down.into(),
+            pending: state.pending.into(),
+            pending_bits: state.pending_bits,
             left: state.left,
             next: state.next,
         }
@@ -30,6 +32,8 @@ impl From<binding::State> for model::State {
             aai: state.aai.into(),
             armed: state.armed.into(),
             power_down: state.power_down.into(),
+            pending: state.pending.into(),
+            pending_bits: state.pending_bits,
             left: state.left,
             next: state.next,
         }

@@ -4,7 +4,7 @@
 use mathlib.Core.Path.{_≡_, refl, sym, ap, _∙_}
 use mathlib.Core.Bool.{Bool, true, false, _&&_, _||_, not, false≢true, true≢false}
 use mathlib.Core.List.{List, [], _∷_}
-use mathlib.Core.Logic.{_⊎_, inl, inr}
+use mathlib.Core.Logic.{_⊎_, inl, inr, ⊎-elim}
 use Prim.Native.Nat.{ℕ, _%_, _≤_, _<_}
 use native.Mathlib.Omega.{arith}
 use lib.Dec.{eqb}
@@ -12,11 +12,20 @@ use borrow.Author.Tests.{eq-eqb, eqb-true, not-true}
 use Rattle.common.specs.Lists.{Each}
 use Rattle.common.proofs.Laws.Booleans.{and-l, and-r, or-none-i, implies-elim}
 use Rattle.common.proofs.Laws.Choice.{cond-elim, cases}
+use Rattle.common.proofs.Laws.Lists.{split}
 use Rattle.common.proofs.Laws.Pairs.{_▹_}
 use Rattle.chip.specs.declared.Chip.{Chip}
 use Rattle.chip.specs.Kinds.{unknown, pageProgram, aaiProgram, ewsr, wrsr, wren, wrdi, deepPowerDown}
 use Rattle.chip.specs.Instructions.{instructions008A, instructions05PA, kindIn}
 use Rattle.chip.specs.Chip.{f25l008a, f25l05pa, Model, model008A, model05PA, models, modelIn, isKnown, chipOf, instructionsOf, kindOf}
+
+-- a chip whose status write takes time
+pub record Timed (chip : Chip) : Type 0 where
+  pub keeps-bits : chip .keeps ≡ true
+  pub no-aai : chip .aai ≡ false
+  pub no-ewsr : chip .ewsr ≡ false
+  pub by-pages : chip .«word_plans» ≡ false
+  pub has-tb : chip .«top_bottom» ≡ true
 
 pub record Regular (chip : Chip) (kind : ℕ → ℕ) : Type 0 where
   -- ---- the array
@@ -31,6 +40,8 @@ pub record Regular (chip : Chip) (kind : ℕ → ℕ) : Type 0 where
   -- ---- nothing takes longer than a chip erase
   pub block-le-chip-time : chip .«block_time» ≤ chip .«chip_time»
   pub sector-le-chip-time : 90000 ≤ chip .«chip_time»
+  pub status-le-sector-time : chip .«status_time» ≤ 90000
+  pub timed : 0 < chip .«status_time» → Timed chip
   -- ---- AAI and power-down: no chip has both
   pub aai-without-power-down : chip .aai ≡ true → chip .sleeps ≡ true → ⊥
   -- ---- only a chip that says so has these kinds
@@ -86,6 +97,8 @@ regular-008a = record {
   preamble-le-4 = omega arith;
   block-le-chip-time = omega arith;
   sector-le-chip-time = omega arith;
+  status-le-sector-time = omega arith;
+  timed = λ h. absurd (omega arith);
   aai-without-power-down = λ _ e. false≢true e;
   aai-program-needs-aai = λ _ _. refl;
   ewsr-needs-ewsr = λ _ _. refl;
@@ -109,6 +122,8 @@ regular-05pa = record {
   preamble-le-4 = omega arith;
   block-le-chip-time = omega arith;
   sector-le-chip-time = omega arith;
+  status-le-sector-time = omega arith;
+  timed = λ _. record { keeps-bits = refl; no-aai = refl; no-ewsr = refl; by-pages = refl; has-tb = refl };
   aai-without-power-down = λ e _. false≢true e;
   aai-program-needs-aai = λ op e. absurd (lacked instructions05PA aaiProgram refl op e);
   ewsr-needs-ewsr = λ op e. absurd (lacked instructions05PA ewsr refl op e);
@@ -136,6 +151,11 @@ model-in P (m ∷ ms) other each stands number =
 pub regular : (number : ℕ) → Regular (chipOf number) (kindOf number)
 unfolding chipOf kindOf
 regular number = model-in RegularModel models model05PA models-regular regular-05pa number
+
+-- where plans go by words a status write takes no time
+pub words-untimed : (number : ℕ) → chipOf number .«word_plans» ≡ true → chipOf number .«status_time» ≡ 0
+words-untimed number w =
+    ⊎-elim (λ timed. absurd (true≢false (sym w ∙ regular number .timed timed .by-pages))) (λ none. omega arith) (split 0 (chipOf number .«status_time»))
 
 -- the chip that stands in for an unknown one
 pub known-5 : isKnown 5 ≡ true

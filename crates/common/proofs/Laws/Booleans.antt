@@ -25,6 +25,10 @@ and-on a b h = rw h refl
 pub and-none : (a b : Bool) → a ≡ false → a && b ≡ false
 and-none a b h = rw h refl
 
+pub and-true : (a : Bool) → a && true ≡ a
+and-true true = refl
+and-true false = refl
+
 pub not-i : (a : Bool) → a ≡ false → not a ≡ true
 not-i a e = rw e refl
 

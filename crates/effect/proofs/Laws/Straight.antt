@@ -17,7 +17,8 @@ use Rattle.common.proofs.Laws.Places.{within-yes, run-within}
 use Rattle.effect.specs.declared.Effect.{Effect}
 use Rattle.effect.specs.declared.Effect.the-variants.{Keep, Fill, Program}
 use Rattle.effect.specs.Effect.{pageEffect, touches, struck, changed, spanOf, Supplied}
-use Rattle.effect.proofs.Laws.Effect.{changed-other}
+use Rattle.effect.specs.Cut.{cut}
+use Rattle.effect.proofs.Laws.Effect.{changed-other, cut-other}
 
 -- ---- none
 
@@ -27,6 +28,10 @@ keep-untouched k = refl
 
 pub keep-array : (f array : List ℕ) → mapi (changed Keep f) array ≡ array
 keep-array f array = mapi-id (changed Keep f) array (λ k h. changed-other Keep f k (getD array k 0) (keep-untouched k))
+
+-- cut short too, by whatever mask
+pub keep-array-cut : (f array mask : List ℕ) → mapi (cut Keep f mask) array ≡ array
+keep-array-cut f array mask = mapi-id (cut Keep f mask) array (λ k h. cut-other Keep f k (getD array k 0) mask (keep-untouched k))
 
 -- ---- the addresses, and what becomes of each
 

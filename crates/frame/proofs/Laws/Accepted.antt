@@ -1,7 +1,7 @@
 -- When a call is accepted, in words, and when it gets which refusal: from the number, and back.
 -- Assumes nothing.
 use mathlib.Core.Path.{_≡_, refl, sym, ap, _∙_}
-use mathlib.Core.Bool.{Bool, not}
+use mathlib.Core.Bool.{Bool, false, not}
 use mathlib.Core.List.{List}
 use Prim.Native.Nat.{ℕ, _<_}
 use native.Mathlib.Omega.{arith}
@@ -16,9 +16,12 @@ use Rattle.common.proofs.Laws.Refusals.{Clear, clear, first-of-clear, Given, gi
 use Rattle.state.specs.State.{dataOf}
 use Rattle.state.specs.Soundness.{isSound}
 use Rattle.state.proofs.Laws.Soundness.{sound-of, of-sound}
+use Rattle.command.specs.declared.Command.{Command}
+use Rattle.command.specs.Command.{commandOf}
 use Rattle.frame.specs.Device.{Device}
 use Rattle.frame.specs.Line.{Line}
-use Rattle.frame.specs.Ran.{maskWanted}
+use Rattle.frame.specs.Cut.{takesMask, Masked}
+use Rattle.frame.proofs.Laws.Cut.{masked-of, of-masked}
 use Rattle.frame.proofs.Laws.Line.{long-of, of-long}
 use Rattle.frame.specs.Call.{frameRefusals, frameNumber, Accepted, maskRefusals, cutRefusals, cutNumber, CutAccepted}
 
@@ -65,6 +68,9 @@ module _ (wp : Bool) (f : List ℕ) (d : Device) (line : Line) where
 
   -- ---- run an interrupted frame: the frame's own refusals, then the mask's
 
+  abbrev command : Command
+  command = commandOf (d .state) wp f
+
   module _ (mask : List ℕ) where
     pub cut-exactly : (number : ℕ) → 0 < number → Exactly (cutNumber wp f mask d line ≡ number) (Given number (cutRefusals wp f mask d line))
     unfolding cutNumber
@@ -81,13 +87,13 @@ module _ (wp : Bool) (f : List ℕ) (d : Device) (line : Line) where
     mask-alone a = first-behind rows (maskRefusals wp f mask d) (words-clear a)
 
     pub cut-accepted-number : CutAccepted wp f mask d line → cutNumber wp f mask d line ≡ 0
-    cut-accepted-number a = mask-alone (a .whole) ∙ rw (eq-eqb (length mask) (maskWanted wp f d) (a .masked)) refl
+    cut-accepted-number a = mask-alone (a .whole) ∙ rw (of-masked command mask (a .masked)) refl
 
-    pub cut-number-unmasked : Accepted wp f d line → (length mask ≡ maskWanted wp f d → ⊥) → cutNumber wp f mask d line ≡ wrongMask
-    cut-number-unmasked a m = mask-alone a ∙ rw (ne-eqb (length mask) (maskWanted wp f d) m) refl
+    pub cut-number-unmasked : Accepted wp f d line → takesMask (commandOf (d .state) wp f) mask ≡ false → cutNumber wp f mask d line ≡ wrongMask
+    cut-number-unmasked a m = mask-alone a ∙ rw m refl
 
-    -- a mask of the right length is no reason
-    pub cut-number-whole : length mask ≡ maskWanted wp f d → cutNumber wp f mask d line ≡ frameNumber wp f d line
+    -- a mask that the frame takes is no reason
+    pub cut-number-whole : Masked (commandOf (d .state) wp f) mask → cutNumber wp f mask d line ≡ frameNumber wp f d line
     cut-number-whole m =
         cases (eqb (frameNumber wp f d line) 0)
         (λ t. let z = eqb-true (frameNumber wp f d line) 0 t in cut-accepted-number record { whole = number-accepted z; masked = m } ∙ sym z)
@@ -100,5 +106,5 @@ module _ (wp : Bool) (f : List ℕ) (d : Device) (line : Line) where
         let c = clear (cutRefusals wp f mask d line) refl e in
         record {
           whole = clear-words (c .0, (c .1 .0, (c .1 .1 .0, (c .1 .1 .1 .0, tt))));
-          masked = eqb-true _ _ (not-false (eqb (length mask) (maskWanted wp f d)) (c .1 .1 .1 .1 .0));
+          masked = masked-of command mask (not-false (takesMask command mask) (c .1 .1 .1 .1 .0));
         }

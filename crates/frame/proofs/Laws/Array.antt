@@ -23,10 +23,13 @@ use Rattle.common.proofs.Laws.Bits.{NoRise, no-rise-refl}
 use Rattle.effect.proofs.Laws.Cut.{cut-between, ones, zeros, cut-all, cut-none}
 use Rattle.effect.proofs.Laws.Rise.{NoErase, changed-no-rise, cut-no-rise}
 use Rattle.effect.proofs.Laws.Effect.{changed-above, cut-above}
+use Rattle.effect.proofs.Laws.Straight.{keep-array, keep-array-cut}
 use Rattle.frame.specs.Device.{Device}
 use Rattle.frame.specs.Line.{Line}
 use Rattle.frame.specs.Ran.{effectAt, ranDevice, maskWanted, tornDevice}
 use Rattle.frame.specs.Call.{frameNumber, Accepted, frameDevice, cutDevice}
+use Rattle.frame.specs.Cut.{isStatusCycle, Masked}
+use Rattle.frame.proofs.Laws.Cut.{cycle-keeps}
 use Rattle.frame.proofs.Laws.Accepted.{cut-number-whole}
 use Rattle.frame.proofs.Laws.Call.{frame-accepted, frame-either, cut-either}
 use Rattle.frame.proofs.Laws.Inside.{effect-free}
@@ -104,11 +107,21 @@ module _ (wp : Bool) (f : List ℕ) (d : Device) (line : Line) where
 
   -- the mask's extremes
   module _ (bytes : Bytes (d .array)) where
+    all-ones : Masked (commandOf (d .state) wp f) (ones (maskWanted wp f d))
+    all-ones = record { bytes = length-replicate {A = ℕ} (maskWanted wp f d) 255; old-or-new = λ timed. inr (rw timed refl) }
+
+    -- a status write's one byte is none of the array's
+    all-fall : mapi (cut (effectAt (d .state) wp f) f (ones (maskWanted wp f d))) (d .array) ≡ mapi (changed (effectAt (d .state) wp f) f) (d .array)
+    all-fall =
+        cases (isStatusCycle (commandOf (d .state) wp f))
+        (λ timed. rw (cycle-keeps (commandOf (d .state) wp f) timed) (keep-array-cut f (d .array) _ ∙ sym (keep-array f (d .array))))
+        (λ other. rw other (cut-all (effectAt (d .state) wp f) f (d .array) bytes))
+
     pub cut-array-all : cutDevice wp f (ones (maskWanted wp f d)) d line .array ≡ frameDevice wp f d line .array
     unfolding cutDevice frameDevice tornDevice ranDevice
     cut-array-all =
-        let n = cut-number-whole wp f d line (ones (maskWanted wp f d)) (length-replicate {A = ℕ} (maskWanted wp f d) 255) in
-        cases (eqb (frameNumber wp f d line) 0) (λ t. rw (n, t) (cut-all (effectAt (d .state) wp f) f (d .array) bytes)) (λ t. rw (n, t) refl)
+        let n = cut-number-whole wp f d line (ones (maskWanted wp f d)) all-ones in
+        cases (eqb (frameNumber wp f d line) 0) (λ t. rw (n, t) all-fall) (λ t. rw (n, t) refl)
 
     pub cut-array-none : (n : ℕ) → cutDevice wp f (zeros n) d line .array ≡ d .array
     unfolding tornDevice

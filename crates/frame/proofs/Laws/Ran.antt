@@ -19,8 +19,9 @@ use Rattle.effect.specs.Effect.{changed}
 use Rattle.effect.specs.Cut.{cut}
 use Rattle.frame.specs.Device.{Device, device}
 use Rattle.frame.specs.Line.{showing, Long}
-use Rattle.frame.specs.Ran.{effectAt, stateAt, ranDevice, shownLine, tornDevice}
+use Rattle.frame.specs.Ran.{effectAt, stateAt, ranDevice, shownLine, cutAt, tornDevice}
 use Rattle.frame.proofs.Laws.Line.{showing-long}
+use Rattle.frame.proofs.Laws.Cut.{cut-state-sound}
 
 module _ (wp : Bool) (f : List ℕ) (d : Device) where
   pub ran-is : ranDevice wp f d ≡ device (stateAt (d .state) wp f) (mapi (changed (effectAt (d .state) wp f) f) (d .array))
@@ -48,10 +49,11 @@ module _ (wp : Bool) (f : List ℕ) (d : Device) where
   shown-long = showing-long (length f) (shownAt (d .state) (commandOf (d .state) wp f) (memory (d .array)))
 
   module _ (mask : List ℕ) where
-    pub torn-is : tornDevice wp f mask d ≡ device (poweredUp (stateAt (d .state) wp f)) (mapi (cut (effectAt (d .state) wp f) f mask) (d .array))
+    pub torn-is : tornDevice wp f mask d ≡ device (poweredUp (cutAt (d .state) wp f mask)) (mapi (cut (effectAt (d .state) wp f) f mask) (d .array))
     unfolding tornDevice
     torn-is = refl
 
     pub torn-sound : Sound (d .state) → Sound (tornDevice wp f mask d .state)
     unfolding tornDevice
-    torn-sound h = powered-up-sound (stateAt (d .state) wp f) (command-sound (d .state) wp f h)
+    torn-sound h =
+        powered-up-sound (cutAt (d .state) wp f mask) (cut-state-sound (d .state) (commandOf (d .state) wp f) mask (command-sound (d .state) wp f h))

@@ -7,6 +7,7 @@ use mathlib.Core.Logic.{⊎-elim}
 use Prim.Native.Nat.{ℕ, _+_, _≤_}
 use native.Mathlib.Omega.{arith}
 use lib.ListN.{length}
+use Rattle.common.proofs.Laws.Choice.{cases}
 use Rattle.common.proofs.Laws.Lists.{split}
 use Rattle.script.specs.Record.{Record, AllFit, encode, scriptLength}
 use Rattle.script.specs.Decode.{records, decode}
@@ -20,8 +21,8 @@ use Rattle.script.specs.declared.measure.Measure.{Measure}
 use Rattle.script.proofs.Laws.Measure.{measured}
 use Rattle.region.proofs.Laws.Region.{changes-before, changes-behind}
 use Rattle.region.proofs.Laws.Words.{nothing-changes-exactly}
-use Rattle.plan.proofs.Laws.Steps.{free-not-needed, status-fits, measure-status, with-status-most, with-status-least, program-fits, program-none, program-unchanged}
-use Rattle.plan.specs.Plan.{stepOneNeeded, statusRecords, statusStep, programStep, planRecords, withStatusSteps}
+use Rattle.plan.proofs.Laws.Steps.{free-not-needed, status-fits, measure-status, with-status-needed, with-status-none, program-fits, program-none, program-unchanged}
+use Rattle.plan.specs.Plan.{stepOneNeeded, statusRecords, statusStep, programStep, planRecords, waitBytes, withStatusSteps}
 use Rattle.common.specs.Refusals.{Exactly}
 
 -- nothing before, between and behind
@@ -37,7 +38,7 @@ module _ (s : State) (array : List ℕ) (start : ℕ) (wanted : List ℕ) where
   abbrev programs : List Record
   programs = programStep (dataOf s .«word_plans») array start wanted
 
-  pub plan-measure : measureOf (planRecords s array start wanted) ≡ withStatusSteps needed (measureOf programs)
+  pub plan-measure : measureOf (planRecords s array start wanted) ≡ withStatusSteps (dataOf s .«status_time») needed (measureOf programs)
   unfolding planRecords
   plan-measure = measure-status needed s (s .bp) programs
 
@@ -56,15 +57,30 @@ module _ (s : State) (array : List ℕ) (start : ℕ) (wanted : List ℕ) where
   unfolding planRecords
   plan-without-status e = rw (e, append-nil programs) refl
 
-  -- they have 22 bytes
-  pub plan-length : (scriptLength programs ≤ length (encode (planRecords s array start wanted)))
-      × (length (encode (planRecords s array start wanted)) ≤ scriptLength programs + 22)
-  plan-length =
+  -- they have 22 bytes, and those of two waits
+  counted : length (encode (planRecords s array start wanted)) ≡ withStatusSteps (dataOf s .«status_time») needed (measureOf programs) .length
+  counted =
       let whole = encoded-length (planRecords s array start wanted) in
-      let counted = measured (planRecords s array start wanted) .bytes in
-      let step = measured programs .bytes in
+      let count = measured (planRecords s array start wanted) .bytes in
       let same = ap (λ (m : Measure). m .length) plan-measure in
-      (omega (arith, with-status-least (measureOf programs) needed), omega (arith, with-status-most (measureOf programs) needed))
+      omega arith
+
+  pub length-with-status : needed ≡ true → length (encode (planRecords s array start wanted)) ≡ scriptLength programs + 22 + waitBytes (dataOf s .«status_time»)
+  length-with-status e =
+      let step = measured programs .bytes in
+      let both = ap (λ (m : Measure). m .length) (with-status-needed (dataOf s .«status_time») (measureOf programs)) in
+      let all = rw e at counted in
+      omega arith
+
+  pub length-without-status : needed ≡ false → length (encode (planRecords s array start wanted)) ≡ scriptLength programs
+  length-without-status e =
+      let step = measured programs .bytes in
+      let none = ap (λ (m : Measure). m .length) (with-status-none (dataOf s .«status_time») (measureOf programs)) in
+      let all = rw e at counted in
+      omega arith
+
+  pub length-least : scriptLength programs ≤ length (encode (planRecords s array start wanted))
+  length-least = cases needed (λ e. omega (arith, length-with-status e)) (λ e. omega (arith, length-without-status e))
 
   -- every record of a plan fits a script
   pub plan-fits : AllFit (planRecords s array start wanted)

@@ -5,16 +5,17 @@ use mathlib.Core.Bool.{Bool, true, false, cond, not, _&&_}
 use mathlib.Core.List.{List, [], _∷_, _++_, append-nil}
 use Prim.Native.Nat.{ℕ, _+_, _*_, _/_, _≤_, _<_}
 use native.Mathlib.Omega.{arith}
-use lib.Dec.{leb, eqb}
+use lib.Dec.{leb, ltb, eqb}
 use lib.ListN.{length, getD}
-use borrow.Author.Tests.{leb-false, lt-leb}
+use borrow.Author.Tests.{leb-false, lt-leb, lt-ltb, ltb-false}
 use Rattle.common.specs.Bits.{bit}
 use Rattle.common.proofs.Laws.Booleans.{and-off}
 use Rattle.common.proofs.Laws.Choice.{cases, cond-elim}
 use Rattle.common.proofs.Laws.Places.{within-bounds}
 use Rattle.common.specs.Limits.{longestScript, longestWanted}
-use Rattle.script.specs.Record.{Record, frame, AllFit, scriptLength}
-use Rattle.script.proofs.Laws.Measure.{Counts, counts-none, counts-frame, counts-append, counts-as, measure-is, measured}
+use Rattle.script.specs.Record.{Record, frame, wait, AllFit, scriptLength}
+use Rattle.script.proofs.Laws.Measure.{Counts, counts-none, counts-frame, counts-wait, counts-append, counts-as, measure-is, measured}
+use Rattle.chip.proofs.Laws.Chip.{regular}
 use Rattle.state.specs.declared.State.{State}
 use Rattle.state.specs.State.{dataOf}
 use Rattle.state.specs.Protection.{firstProtected}
@@ -29,7 +30,7 @@ use Rattle.pages.specs.Pages.{pagesIn, stepThree}
 use Rattle.pages.proofs.Laws.Pages.{pages-step-fits, pages-step-none, pages-step-unchanged}
 use Rattle.pages.proofs.Laws.Region.{pages-step-most}
 use Rattle.pages.proofs.Laws.Fewer.{pages-no-longer}
-use Rattle.plan.specs.Plan.{isProtectedChange, stepOneNeeded, statusByte, statusRecords, statusStep, programStep, withStatusSteps}
+use Rattle.plan.specs.Plan.{isProtectedChange, stepOneNeeded, statusByte, settle, statusRecords, statusStep, programStep, waitBytes, withStatusSteps}
 
 -- whether step 1 is needed for the i-th byte of the region
 pub protected-at : (first : ℕ) (array : List ℕ) (start : ℕ) (wanted : List ℕ) (i : ℕ) → i < length wanted
@@ -61,46 +62,72 @@ status-byte-digits bp true false = refl
 status-byte-digits bp false true = refl
 status-byte-digits bp false false = refl
 
+-- the wait behind a status write that takes time
+module _ (time : ℕ) where
+  abbrev settleBytes : ℕ
+  settleBytes = cond (ltb 0 time) 6 0
+
+  settle-counts : Counts (settle time) settleBytes 0 time
+  settle-counts =
+      cases (ltb 0 time) (λ t. rw t (counts-as (counts-wait counts-none time) (omega arith) (omega arith) (omega arith)))
+      (λ t. let none = ltb-false 0 time t in rw t (counts-as counts-none refl refl (omega arith)))
+
+  settle-twice : settleBytes + settleBytes ≡ waitBytes time
+  settle-twice = cases (ltb 0 time) (λ t. rw t refl) (λ t. rw t refl)
+
+  pub settle-none : time ≡ 0 → settle time ≡ []
+  settle-none z = rw z refl
+
+  pub settle-some : 0 < time → settle time ≡ wait time ∷ []
+  settle-some some = rw (lt-ltb 0 time some) refl
+
+  pub wait-bytes-le : waitBytes time ≤ 12
+  wait-bytes-le = cond-elim (λ (n : ℕ). n ≤ 12) (ltb 0 time) (λ _. omega arith) (λ _. omega arith)
+
+  settle-fits : time ≤ 90000 → AllFit (settle time)
+  settle-fits low = cond-elim AllFit (ltb 0 time) (λ _. (omega arith, tt)) (λ _. tt)
+
 module _ (s : State) (bp : ℕ) where
-  pub status-records : statusRecords s bp ≡ frame (cond (dataOf s .ewsr) 0x50 0x06 ∷ []) ∷ frame (0x01 ∷ statusByte bp (s .tb) (s .bpl) ∷ []) ∷ []
+  pub status-records : statusRecords s bp
+      ≡ frame (cond (dataOf s .ewsr) 0x50 0x06 ∷ []) ∷ frame (0x01 ∷ statusByte bp (s .tb) (s .bpl) ∷ []) ∷ settle (dataOf s .«status_time»)
   unfolding statusRecords
   status-records = refl
 
-  status-counts : Counts (statusRecords s bp) 11 2 0
+  status-counts : Counts (statusRecords s bp) (11 + settleBytes (dataOf s .«status_time»)) 2 (dataOf s .«status_time»)
   unfolding statusRecords
-  status-counts = counts-frame (counts-frame counts-none _) _
+  status-counts = counts-as (counts-frame (counts-frame (settle-counts (dataOf s .«status_time»)) _) _) (omega arith) (omega arith) (omega arith)
 
   pub status-fits : (needed : Bool) → AllFit (statusStep needed s bp)
   unfolding statusRecords
-  status-fits true = ((omega arith, omega arith), ((omega arith, omega arith), tt))
+  status-fits true = ((omega arith, omega arith), ((omega arith, omega arith), settle-fits (dataOf s .«status_time») (regular (s .chip) .status-le-sector-time)))
   status-fits false = tt
 
 -- what stands between them, and the whole
 pub measure-status : (needed : Bool) (s : State) (bp : ℕ) (rs : List Record)
-    → measureOf (statusStep needed s 0 ++ (rs ++ statusStep needed s bp)) ≡ withStatusSteps needed (measureOf rs)
+    → measureOf (statusStep needed s 0 ++ (rs ++ statusStep needed s bp)) ≡ withStatusSteps (dataOf s .«status_time») needed (measureOf rs)
 unfolding withStatusSteps
 measure-status false s bp rs = rw (append-nil rs) refl
 measure-status true s bp rs =
+    let twice = settle-twice (dataOf s .«status_time») in
     measure-is (counts-as (counts-append (status-counts s 0) (counts-append (measured rs) (status-counts s bp))) (omega arith) (omega arith) (omega arith))
 
--- they add nothing, or 22 bytes and 4 frames
-module _ (m : Measure) where
+-- they add nothing, or 22 bytes, 4 frames and two waits
+module _ (time : ℕ) (m : Measure) where
   abbrev withBoth : Measure
-  withBoth = record { length = m .length + 22; frames = m .frames + 4; microseconds = m .microseconds }
+  withBoth = record { length = m .length + 22 + waitBytes time; frames = m .frames + 4; microseconds = m .microseconds + 2 * time }
 
-  pub with-status-needed : withStatusSteps true m ≡ withBoth
+  pub with-status-needed : withStatusSteps time true m ≡ withBoth
   unfolding withStatusSteps
   with-status-needed = refl
 
-  pub with-status-most : (needed : Bool) → AtMost (withStatusSteps needed m) withBoth
+  pub with-status-none : withStatusSteps time false m ≡ m
+  unfolding withStatusSteps
+  with-status-none = refl
+
+  pub with-status-most : (needed : Bool) → AtMost (withStatusSteps time needed m) withBoth
   unfolding withStatusSteps
   with-status-most true = record { frames = omega arith; microseconds = omega arith; bytes = omega arith }
   with-status-most false = record { frames = omega arith; microseconds = omega arith; bytes = omega arith }
-
-  pub with-status-least : (needed : Bool) → AtMost m (withStatusSteps needed m)
-  unfolding withStatusSteps
-  with-status-least true = record { frames = omega arith; microseconds = omega arith; bytes = omega arith }
-  with-status-least false = record { frames = omega arith; microseconds = omega arith; bytes = omega arith }
 
 -- ---- steps 2 and 3
 
@@ -139,11 +166,12 @@ module _ (words : Bool) (array : List ℕ) (start : ℕ) (wanted : List ℕ) whe
   -- so that the code's sums fit
   pub program-small : length wanted ≤ longestWanted
       → (measureOf (programStep words array start wanted) .length ≤ longestScript) × (measureOf (programStep words array start wanted) .frames ≤ longestScript)
+      × (measureOf (programStep words array start wanted) .microseconds ≤ longestScript)
   unfolding programStep
   program-small h =
-      cond-elim (λ (rs : List Record). (measureOf rs .length ≤ longestScript) × (measureOf rs .frames ≤ longestScript)) words
-      (λ _. let m = step-two-most array start wanted h in (omega arith, omega arith))
-      (λ _. let m = step-three-most array start wanted h in (omega arith, omega arith))
+      cond-elim (λ (rs : List Record). (measureOf rs .length ≤ longestScript) × (measureOf rs .frames ≤ longestScript) × (measureOf rs .microseconds ≤ longestScript)) words
+      (λ _. let m = step-two-most array start wanted h in (omega arith, omega arith, omega arith))
+      (λ _. let m = step-three-most array start wanted h in (omega arith, omega arith, omega arith))
 
   pub program-none : ((k : ℕ) → changes array start wanted k ≡ false) → programStep words array start wanted ≡ []
   unfolding programStep

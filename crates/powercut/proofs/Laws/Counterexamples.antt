@@ -35,7 +35,7 @@ use Rattle.plan.specs.Refusals.{isActive, planRefusal}
 use Rattle.powercut.specs.PowerCut.{Planner, updated, Partway, Completes, PowerCutSafe}
 use Rattle.powercut.proofs.Laws.States.{standing}
 use Rattle.powercut.proofs.Laws.Updated.{updated-at}
-use Rattle.powercut.proofs.Laws.Samples.{fe, wordPlan}
+use Rattle.samples.proofs.Laws.Plans.{fe, wordPlan}
 use Rattle.run.proofs.Laws.Run.{run-array-length}
 use Rattle.run.proofs.Laws.Trace.{stateBehind, byteBehind, traced}
 

@@ -62,11 +62,11 @@ module _ (s : State) (bp a : ℕ) where
 
   -- a word's time is over: AAI goes on below the border
   pub word-done : a < border s bp → timePassed (running s bp 7 a) 7 ≡ running s bp 0 a
-  word-done h = time-ends-in-aai (running s bp 7 a) 7 (omega arith) (omega arith) refl (rw same-border h)
+  word-done h = time-ends-in-aai (running s bp 7 a) 7 (omega arith) (omega arith) refl refl (rw same-border h)
 
   -- and ends there
   pub last-word-done : border s bp ≤ a → timePassed (running s bp 7 a) 7 ≡ rest s bp false false
-  last-word-done h = time-ends-aai (running s bp 7 a) 7 (omega arith) (omega arith) refl (rw same-border h)
+  last-word-done h = time-ends-aai (running s bp 7 a) 7 (omega arith) (omega arith) refl refl (rw same-border h)
 
 -- ---- pages
 
@@ -77,4 +77,4 @@ module _ (wp : Bool) (s : State) (bp : ℕ) where
       page-taken (rest s bp true armed) wp (at-rest s bp true armed) a x sent pages (below-border s (rest s bp true armed) bp (a + 1) refl refl refl (omega arith))
 
   pub page-done : timePassed (busy s bp) 1500 ≡ rest s bp false false
-  page-done = time-ends (busy s bp) 1500 (omega arith) (omega arith) refl
+  page-done = time-ends (busy s bp) 1500 (omega arith) (omega arith) refl refl

@@ -13,11 +13,13 @@ use Rattle.state.specs.Power.{poweredUp}
 use Rattle.state.specs.Time.{timePassed}
 use Rattle.state.proofs.Laws.Passed.{pass-time-granted}
 use Rattle.state.proofs.Laws.Soundness.{sound-of, of-sound}
+use Rattle.command.specs.Command.{commandOf}
 use Rattle.script.specs.Record.{Record, frame, wait}
 use Rattle.script.proofs.Laws.Decode.{decode-encode}
 use Rattle.frame.specs.Device.{Device, withState}
 use Rattle.frame.specs.Line.{Line, onLine}
-use Rattle.frame.specs.Ran.{maskWanted, tornDevice}
+use Rattle.frame.specs.Cut.{Masked}
+use Rattle.frame.specs.Ran.{tornDevice}
 use Rattle.frame.specs.Call.{CutAccepted}
 use Rattle.frame.proofs.Laws.Accepted.{number-accepted, cut-number-accepted, cut-accepted-number}
 use Rattle.common.specs.Bits.{Bytes}
@@ -125,18 +127,18 @@ behind-ready wp chip start wanted room bytes e after behind =
     at-rest-by wp chip start wanted room e (λ (d : Device). BehindPlan wp d start wanted after → ReadyToPlan (d .state .chip) after)
     (λ bp wel armed a. ⊎-elim (end-ready chip bp wel armed wp start wanted room bytes a after) (cut-ready chip bp wel armed wp start wanted room bytes a after)) behind
 
--- every frame of such a plan can be cut with every mask of the length that it wants: there is a line that the call accepts
+-- every frame of such a plan can be cut with every mask that it takes: there is a line that the call accepts
 pub cut-anywhere : (wp : Bool) (chip : Device) (start : ℕ) (wanted : List ℕ) (room : ℕ) → Bytes (chip .array)
     → planRefusal (chip .state) wp (chip .array) start wanted room ≡ 0 → (before after : List Record) (f mask : List ℕ)
-    → planRecords (chip .state) (chip .array) start wanted ≡ before ++ (frame f ∷ after) → Bytes mask → length mask ≡ maskWanted wp f (run wp before chip)
+    → planRecords (chip .state) (chip .array) start wanted ≡ before ++ (frame f ∷ after) → Bytes mask → Masked (commandOf (run wp before chip .state) wp f) mask
     → CutShort (planRecords (chip .state) (chip .array) start wanted) wp chip (tornDevice wp f mask (run wp before chip))
-cut-anywhere wp chip start wanted room bytes e before after f mask is masked long =
+cut-anywhere wp chip start wanted room bytes e before after f mask is bytewise masked =
     let met : Device = run wp before chip in
     let line : Line = onLine f f in
     let good = power-cut-safe wp chip start wanted room bytes e .uncut .frames-accepted before after f is line record { output-long = refl; driven-long = refl } in
-    let a : CutAccepted wp f mask met line = record { whole = number-accepted wp f met line good; masked = long } in
+    let a : CutAccepted wp f mask met line = record { whole = number-accepted wp f met line good; masked = masked } in
     rw (cut-accepted wp f met line mask a record { device-is = refl; line-is = refl } .device-is)
-    (inside before after f mask line is masked (cut-accepted-number wp f met line mask a))
+    (inside before after f mask line is bytewise (cut-accepted-number wp f met line mask a))
 
 -- and of any planner that gives the same records
 by-records : (plan : Planner) → ((s : State) (array : List ℕ) (start : ℕ) (wanted : List ℕ) → plan s array start wanted ≡ planRecords s array start wanted)

@@ -1,7 +1,7 @@
 -- A chip that a cut has met, powered up: planning again is accepted with 22 bytes more room or more than that, and that plan completes the update.
 -- Assumes nothing.
-use mathlib.Core.Path.{_≡_, refl, _∙_}
-use mathlib.Core.Bool.{Bool, true, false, not, _&&_}
+use mathlib.Core.Path.{_≡_, refl, sym, _∙_}
+use mathlib.Core.Bool.{Bool, true, false, not, _&&_, true≢false}
 use mathlib.Core.List.{List}
 use mathlib.Core.Logic.{_⊎_, inl, inr, ⊎-elim}
 use Prim.Native.Nat.{ℕ, _+_, _≤_, _<_}
@@ -9,7 +9,9 @@ use native.Mathlib.Nat.{le-refl}
 use native.Mathlib.Omega.{arith}
 use lib.ListN.{length}
 use Rattle.common.proofs.Laws.Choice.{cases}
+use Rattle.common.proofs.Laws.Lists.{split}
 use Rattle.common.proofs.Laws.Places.{within-bounds}
+use Rattle.chip.proofs.Laws.Chip.{regular}
 use Rattle.state.specs.declared.State.{State}
 use Rattle.state.specs.State.{dataOf}
 use Rattle.state.specs.Power.{atRest, poweredUp}
@@ -41,12 +43,13 @@ record Awake (s now : State) : Type 0 where
   bpl : Bool
   is : now ≡ atRest (s .chip) bp tb bpl
   lock : (bpl ≡ false) ⊎ ((bp ≡ s .bp) × (bpl ≡ s .bpl))
+  kept : dataOf s .keeps ≡ true → bp ≡ s .bp
 
 awake : (s : State) → Awake s (poweredUp s)
 awake s =
     cases (dataOf s .keeps)
-    (λ k. record { bp = s .bp; tb = s .tb; bpl = s .bpl; is = powered-up-keeps s k; lock = inr (refl, refl) })
-    (λ k. record { bp = dataOf s .«new_level»; tb = false; bpl = false; is = powered-up-new s k; lock = inl refl })
+    (λ k. record { bp = s .bp; tb = s .tb; bpl = s .bpl; is = powered-up-keeps s k; lock = inr (refl, refl); kept = λ _. refl })
+    (λ k. record { bp = dataOf s .«new_level»; tb = false; bpl = false; is = powered-up-new s k; lock = inl refl; kept = λ e. absurd (true≢false (sym e ∙ k)) })
 
 -- of three, the last two don't hold together
 off : (a b c : Bool) → b && c ≡ false → a && b && c ≡ false
@@ -85,14 +88,21 @@ module _ (given : Device) (bp : ℕ) (wel armed : Bool) (wp : Bool) (start : ℕ
     free-again k needed e c =
         ⊎-elim (λ h. rw (first-by again s (safe .held .same-chip) (e ∙ h)) (not-needed-free s array start wanted needed k (fewer k c)))
         (λ h. let b = within-bounds start (length wanted) k (change-in-region now start wanted k c) in
-        rw (open-at-0 again (e ∙ h), safe .held .same-chip) (omega (arith, accepted .region .fits))) (safe .held .level-held)
+        rw (open-at-0 again (e ∙ h), safe .held .same-chip) (omega (arith, accepted .region .fits))) (safe .held .now .level-held)
 
     writable-again : stepOneNeeded again now start wanted && again .bpl && not wp ≡ false
     writable-again =
         ⊎-elim (λ e. off (stepOneNeeded again now start wanted) (woken .bpl) (not wp) (rw e refl))
         (λ e. cases (stepOneNeeded s array start wanted)
-        (λ needed. off (stepOneNeeded again now start wanted) (woken .bpl) (not wp) (rw (e .1, safe .held .same-bpl) (rw needed at (accepted .writable))))
+        (λ needed. off (stepOneNeeded again now start wanted) (woken .bpl) (not wp) (rw (e .1, safe .held .now .same-bpl) (rw needed at (accepted .writable))))
         (λ needed. rw (free-not-needed again now start wanted (λ k c. free-again k needed (e .0) c)) refl)) (woken .lock)
+
+    -- refusal 10: a chip whose status write takes time keeps its bits, so it needs step 1 now only if it did before
+    needed-before : 0 < dataOf again .«status_time» → stepOneNeeded again now start wanted ≡ true → stepOneNeeded s array start wanted ≡ true
+    needed-before timed needed =
+        cases (stepOneNeeded s array start wanted) (λ e. e)
+        (λ e. let kept = woken .kept (regular (d .state .chip) .timed timed .keeps-bits) in
+        absurd (true≢false (sym needed ∙ free-not-needed again now start wanted (λ k c. free-again k e kept c))))
 
     accepted-again : (more : ℕ) → room + 22 ≤ more → Accepted again wp now start wanted more
     accepted-again more enough = record {
@@ -107,7 +117,12 @@ module _ (given : Device) (bp : ℕ) (wel armed : Bool) (wp : Bool) (start : ℕ
         falls = falls-still array start wanted bytes now (safe .near) fits (accepted .region .falls);
       };
       writable = writable-again;
-      roomy = omega (arith, accepted .roomy, plan-22-longer now array start wanted fewer again s (safe .held .same-chip));
+      roomy = omega (
+        arith,
+        accepted .roomy,
+        plan-22-longer now array start wanted fewer again s (safe .held .same-chip)
+            (⊎-elim (λ timed. inr (needed-before timed)) (λ none. inl (omega arith)) (split 0 (dataOf again .«status_time»))),
+      );
     }
 
     pub recovers : Recovers planRecords wp array start wanted (room + 22) (withState d (poweredUp (d .state)))

@@ -18,14 +18,16 @@ use Rattle.script.specs.Record.{Record, frame, wait, AllFit}
 use Rattle.script.proofs.Laws.Records.{all-fit-left, all-fit-right}
 use Rattle.effect.specs.declared.Effect.the-variants.{Keep}
 use Rattle.effect.specs.Effect.{changed}
+use Rattle.effect.specs.Cut.{cut}
 use Rattle.frame.specs.Effect.{effectOf}
 use Rattle.frame.specs.Device.{Device}
+use Rattle.frame.proofs.Laws.Cut.{cut-by-time}
 use Rattle.run.specs.Run.{step, run}
 use Rattle.run.proofs.Laws.Run.{run-none, run-first, run-append}
 use Rattle.powercut.proofs.Laws.Near.{Near, Programs, Settled, keep-programs, near-cut}
 use Rattle.effect.proofs.Laws.Straight.{keep-array}
 use Rattle.powercut.proofs.Laws.States.{standing}
-use Rattle.powercut.proofs.Laws.Safe.{Task, HeldBy, Safe, Inside, Always, always-append, always-now}
+use Rattle.powercut.proofs.Laws.Safe.{Task, HeldBy, Safe, safe-in-time, Inside, Always, always-append, always-now}
 use Rattle.run.proofs.Laws.Trace.{step-frame, step-wait}
 
 module _ (t : Task) where
@@ -73,7 +75,11 @@ module _ (t : Task) where
         let now = always-now t rs (standing (t .chip) (stateAfter s c) (mapi (changed (effectOf c) f) array)) (q .always) in
         ran-cons (frame f) rs (standing (t .chip) s array) (standing (t .chip) (stateAfter s c) (mapi (changed (effectOf c) f) array))
         (step-frame (t .level) (standing (t .chip) s array) f ∙ rw law refl) safe
-        (λ mask masked. rw law (record { sound = sound-then; held = now .held; near = near-cut (t .chip .array) (t .want) array near (effectOf c) f programs mask (t .bytes) masked }))
+        (λ mask masked.
+        let after : List ℕ = mapi (cut (effectOf c) f mask) array in
+        let met : Safe t (standing (t .chip) (stateAfter s c) after) =
+        record { sound = sound-then; held = now .held; near = near-cut (t .chip .array) (t .want) array near (effectOf c) f programs mask (t .bytes) masked } in
+        rw law (cut-by-time s c mask (λ (x : State). Safe t (standing (t .chip) x after)) met (λ n. safe-in-time t n (standing (t .chip) (stateAfter s c) after) met)))
         q
 
     -- a frame that leaves the array alone

@@ -2,24 +2,26 @@
 -- Over any chip, and any byte wanted at each address.
 -- Assumes nothing.
 use mathlib.Core.Path.{_≡_}
-use mathlib.Core.Bool.{Bool}
+use mathlib.Core.Bool.{Bool, true, _&&_, false≢true}
 use mathlib.Core.List.{List, [], _∷_, _++_}
 use mathlib.Core.Logic.{_⊎_, ⊎-elim}
-use Prim.Native.Nat.{ℕ}
+use Prim.Native.Nat.{ℕ, _/_, _%_}
 use native.Mathlib.Omega.{arith}
 use Rattle.common.specs.Lists.{mapi}
 use Rattle.common.proofs.Laws.Choice.{cases}
 use Rattle.common.proofs.Laws.Lists.{split}
+use Rattle.chip.specs.Chip.{chipOf}
 use Rattle.state.specs.declared.State.{State}
+use Rattle.state.specs.Status.{has}
 use Rattle.state.specs.Protection.{firstProtected}
 use Rattle.state.specs.Soundness.{Sound}
 use Rattle.state.specs.Time.{timePassed}
-use Rattle.state.proofs.Laws.Passed.{time-goes-on, time-idle, time-ends, time-ends-in-aai, time-ends-aai}
+use Rattle.state.proofs.Laws.Passed.{time-goes-on, time-idle, time-ends-written, time-ends, time-ends-in-aai, time-ends-aai}
 use Rattle.state.proofs.Laws.Time.{time-passed-sound}
 use Rattle.script.specs.Record.{Record, frame, wait}
 use Rattle.effect.specs.Cut.{cut}
 use Rattle.frame.specs.Device.{Device, withState}
-use Rattle.frame.specs.Ran.{effectAt, stateAt}
+use Rattle.frame.specs.Ran.{effectAt, cutAt}
 use Rattle.common.specs.Bits.{Bytes}
 use Rattle.run.specs.Run.{step, run}
 use Rattle.run.proofs.Laws.Run.{run-none, run-first}
@@ -33,24 +35,31 @@ pub record Task : Type 0 where
   pub want : ℕ → ℕ
   pub bytes : Bytes (chip .array)
 
--- the protection bits are the given ones, or BP is 000
-pub record Held (given : State) (chip bp : ℕ) (tb bpl : Bool) : Type 0 where
-  pub same-chip : chip ≡ given .chip
+-- protection bits that are the given ones, or with BP 000
+pub record Bits (given : State) (bp : ℕ) (tb bpl : Bool) : Type 0 where
   pub level-held : (bp ≡ given .bp) ⊎ (bp ≡ 0)
   pub same-tb : tb ≡ given .tb
   pub same-bpl : bpl ≡ given .bpl
 
-abbrev pub HeldBy : State → State → Type 0
-HeldBy given s = Held given (s .chip) (s .bp) (s .tb) (s .bpl)
+-- they are a chip's, and so are those that a status write sets when its cycle ends
+pub record Held (given : State) (chip bp : ℕ) (tb bpl pending : Bool) (bits : ℕ) : Type 0 where
+  pub same-chip : chip ≡ given .chip
+  pub now : Bits given bp tb bpl
+  pub coming : pending ≡ true → Bits given (bits / 4 % 8) (chipOf chip .«top_bottom» && has bits 32) (has bits 128)
 
--- "Time changes nothing else": however a cycle goes on or ends, the protection bits stay
+abbrev pub HeldBy : State → State → Type 0
+HeldBy given s = Held given (s .chip) (s .bp) (s .tb) (s .bpl) (s .pending) (s .«pending_bits»)
+
+-- "Time changes nothing else": however a cycle goes on or ends, the protection bits stay, or are those that were coming
 held-in-time : (given s : State) (n : ℕ) → HeldBy given s → HeldBy given (timePassed s n)
 held-in-time given s n held =
     ⊎-elim (λ on. rw (time-goes-on s n on) held)
     (λ over. ⊎-elim
-    (λ busy. cases (s .aai)
-    (λ a. ⊎-elim (λ h. rw (time-ends-in-aai s n busy over a h) held) (λ h. rw (time-ends-aai s n busy over a h) held) (split (s .next) (firstProtected s)))
-    (λ a. rw (time-ends s n busy over a) held))
+    (λ busy. cases (s .pending)
+    (λ p. rw (time-ends-written s n busy over p) (record { same-chip = held .same-chip; now = held .coming p; coming = λ e. absurd (false≢true e) }))
+    (λ o. cases (s .aai)
+    (λ a. ⊎-elim (λ h. rw (time-ends-in-aai s n busy over o a h) held) (λ h. rw (time-ends-aai s n busy over o a h) held) (split (s .next) (firstProtected s)))
+    (λ a. rw (time-ends s n busy over o a) held)))
     (λ idle. rw (time-idle s n (omega arith)) held) (split 0 (s .left)))
     (split n (s .left))
 
@@ -72,7 +81,7 @@ module _ (t : Task) where
   -- an interrupted frame, before the power is back
   abbrev pub torn : List ℕ → List ℕ → Device → Device
   torn f mask d =
-      standing d (stateAt (d .state) (t .level) f) (mapi (cut (effectAt (d .state) (t .level) f) f mask) (d .array))
+      standing d (cutAt (d .state) (t .level) f mask) (mapi (cut (effectAt (d .state) (t .level) f) f mask) (d .array))
 
   abbrev pub Inside : Record → Device → Type 0
   Inside (frame f) d = (mask : List ℕ) → Bytes mask → Safe (torn f mask d)

@@ -1,4 +1,5 @@
--- The chips that a plan takes the given one through, and their states: at rest, in AAI, busy with a page; and the state behind a part of a plan.
+-- The chips that a plan takes the given one through, and their states: at rest, in AAI, busy with a page or with a status write; and the state behind a
+-- part of a plan.
 -- Made by the builder and the setters, so that a further part or field stays as given.
 -- Assumes nothing.
 use mathlib.Core.Path.{_≡_, refl, ap, ap₂, _∙_}
@@ -6,9 +7,10 @@ use mathlib.Core.Bool.{Bool, true, false}
 use mathlib.Core.List.{List, [], _∷_, _++_}
 use Prim.Native.Nat.{ℕ}
 use Rattle.state.specs.declared.State.{State}
-use Rattle.state.specs.State.{withLeft, withWel, withArmed, withPowerDown, withAai, withBits}
+use Rattle.state.specs.State.{dataOf, withLeft, withWel, withArmed, withPowerDown, withAai, withBits, withPending}
 use Rattle.state.specs.Protection.{firstProtected}
 use Rattle.state.specs.Soundness.{Sound}
+use Rattle.state.proofs.Laws.Soundness.{still-not-pending}
 use Rattle.script.specs.Record.{Record}
 use Rattle.frame.specs.Device.{Device}
 use Rattle.powercut.specs.PowerCut.{stateAfterPlan}
@@ -19,7 +21,7 @@ standing given s array = record { state = s; array = array }
 
 -- nothing going on
 abbrev calmed : State → State
-calmed s = withAai (withPowerDown (withLeft s 0) false) false 0
+calmed s = withPending (withAai (withPowerDown (withLeft s 0) false) false 0) false 0
 
 -- at rest at a level of protection, by WEL and armed
 abbrev pub rest : State → ℕ → Bool → Bool → State
@@ -33,9 +35,16 @@ running s bp left next = withAai (withLeft (rest s bp true false) left) true nex
 abbrev pub busy : State → ℕ → State
 busy s bp = withLeft (rest s bp true false) 1500
 
+-- while a status write goes on, which is to set these bits
+abbrev pub writing : State → ℕ → ℕ → State
+writing s bp bits = withPending (withLeft (rest s bp true false) (dataOf s .«status_time»)) true bits
+
 -- neither busy nor in AAI nor in power-down: the state is its own rest
 pub is-rest : (s : State) → Sound s → s .left ≡ 0 → s .aai ≡ false → s .«power_down» ≡ false → s ≡ rest s (s .bp) (s .wel) (s .armed)
-is-rest s h l a d = ap (withLeft s) l ∙ ap (withPowerDown (withLeft s 0)) d ∙ ap₂ (withAai (withPowerDown (withLeft s 0) false)) a (h .next-0-without-aai a)
+is-rest s h l a d =
+    let none = still-not-pending s h l in
+    ap (withLeft s) l ∙ ap (withPowerDown (withLeft s 0)) d ∙ ap₂ (withAai (withPowerDown (withLeft s 0) false)) a (h .next-0-without-aai a)
+    ∙ ap₂ (withPending (withAai (withPowerDown (withLeft s 0) false) false 0)) none (h .bits-0-without-pending none)
 
 -- ---- protection
 

@@ -2,9 +2,13 @@
 -- Assumes nothing.
 use mathlib.Core.Path.{_≡_, refl}
 use mathlib.Core.Bool.{Bool, true, false}
-use Prim.Native.Nat.{ℕ, _+_}
+use Prim.Native.Nat.{ℕ, _+_, _<_}
+use native.Mathlib.Omega.{arith}
+use lib.Dec.{eqb}
+use borrow.Author.Tests.{ne-eqb}
+use Rattle.common.proofs.Laws.Choice.{cond-elim}
 use Rattle.state.specs.declared.State.{State}
-use Rattle.state.specs.State.{withLeft, withWel, withArmed, withPowerDown, withAai}
+use Rattle.state.specs.State.{withLeft, withWel, withArmed, withPowerDown, withAai, withPending}
 use Rattle.command.specs.declared.Command.{Command}
 use Rattle.command.specs.declared.Command.the-variants.{
   Ignored,
@@ -23,7 +27,7 @@ use Rattle.command.specs.declared.Command.the-variants.{
   ProgramWord,
   Sleep,
 }
-use Rattle.state.specs.Status.{withStatusByte}
+use Rattle.state.specs.Status.{writableBits, withStatusByte}
 use Rattle.registers.specs.Registers.{disarm, stateAfter}
 
 module _ (s : State) where
@@ -63,9 +67,15 @@ module _ (s : State) where
   unfolding stateAfter
   after-arm = refl
 
-  pub after-write-status : (byte time : ℕ) → stateAfter s (WriteStatus byte time) ≡ withWel (withStatusByte (disarm s) byte) false
+  -- at once,
+  pub after-write-status : (byte : ℕ) → stateAfter s (WriteStatus byte 0) ≡ withWel (withStatusByte (disarm s) byte) false
   unfolding stateAfter
-  after-write-status byte time = refl
+  after-write-status byte = refl
+
+  -- or by a cycle of its own
+  pub after-status-begun : (byte time : ℕ) → 0 < time → stateAfter s (WriteStatus byte time) ≡ withPending (withLeft (disarm s) time) true (writableBits byte)
+  unfolding stateAfter
+  after-status-begun byte time h = rw (ne-eqb time 0 (λ z. absurd (omega arith))) refl
 
   pub after-erase : (address count time : ℕ) → stateAfter s (Erase address count time) ≡ withLeft (disarm s) time
   unfolding stateAfter
@@ -98,7 +108,7 @@ state-after-chip s (ReadIdentity b) = refl
 state-after-chip s WriteEnable = refl
 state-after-chip s WriteDisable = refl
 state-after-chip s Arm = refl
-state-after-chip s (WriteStatus b t) = refl
+state-after-chip s (WriteStatus b t) = cond-elim (λ (x : State). x .chip ≡ s .chip) (eqb t 0) (λ _. refl) (λ _. refl)
 state-after-chip s (Erase a n t) = refl
 state-after-chip s (ProgramByte a) = refl
 state-after-chip s (ProgramPage a n) = refl
@@ -134,7 +144,7 @@ state-after-armed s (ReadIdentity b) = refl
 state-after-armed s WriteEnable = refl
 state-after-armed s WriteDisable = refl
 state-after-armed s Arm = refl
-state-after-armed s (WriteStatus b t) = refl
+state-after-armed s (WriteStatus b t) = cond-elim (λ (x : State). x .armed ≡ false) (eqb t 0) (λ _. refl) (λ _. refl)
 state-after-armed s (Erase a n t) = refl
 state-after-armed s (ProgramByte a) = refl
 state-after-armed s (ProgramPage a n) = refl

@@ -38,7 +38,7 @@ use Rattle.rules.specs.Chips.{byChip}
 use Rattle.rules.specs.Frames.{opcode, isResting, isAmong}
 use Rattle.rules.proofs.Laws.Does.{done}
 use Rattle.rules.proofs.Laws.Kinds.{kind-exactly}
-use Rattle.rules.proofs.Laws.AtRest.{fails-when, at-rest-alone}
+use Rattle.rules.proofs.Laws.AtRest.{rows-fail, at-rest-alone}
 
 and-no : (a : Bool) {b : Bool} → b ≡ false → a && b ≡ false
 and-no true e = e
@@ -57,32 +57,28 @@ module _ {wp : Bool} {f : List ℕ} {d : Device} {line : Line} (a : Accepted wp 
   abbrev Quiet : Command → Type 0
   Quiet c = arms c ≡ false
 
-  perhaps : (c : Command) (t : Bool) → Quiet c → Quiet (when t c)
-  perhaps = fails-when arms refl
-
   module _ (r : Resting (d .state)) where
     rows-quiet : (kind : ℕ) → (kind ≡ wren → ⊥) → (kind ≡ ewsr → ⊥) → AllRows Quiet kind (rows (d .state) wp f)
     rows-quiet kind not-wren not-ewsr =
-        let s = d .state in
-        let address = address s f in
-        (λ _. refl)
+        rows-fail arms refl (d .state) wp f kind
+        ((λ _. refl)
         ▹ (λ _. refl)
-        ▹ (λ _. perhaps _ (long f 4) (perhaps (Erase (address / 4096 * 4096) 4096 90000) (writable s (address / 4096 * 4096 + 4096)) refl))
-        ▹ (λ _. perhaps _ (long f 4) (perhaps (Erase (address / 65536 * 65536) 65536 (dataOf s .«block_time»)) (writable s (address / 65536 * 65536 + 65536)) refl))
-        ▹ (λ _. perhaps _ (long f 1) (perhaps (Erase 0 (dataOf s .size) (dataOf s .«chip_time»)) (writable s (0 + dataOf s .size)) refl))
-        ▹ (λ _. perhaps _ (long f 5) (perhaps (ProgramByte address) (writable s (address + 1)) refl))
-        ▹ (λ _. perhaps _ (leb 5 (length f)) (perhaps (ProgramPage address (length f - 4)) (writable s (address + 1)) refl))
-        ▹ (λ _. perhaps _ (long f 6) (perhaps (ProgramWord (address / 2 * 2) 4) (writable s (address / 2 * 2 + 2)) refl))
+        ▹ (λ _. refl)
+        ▹ (λ _. refl)
+        ▹ (λ _. refl)
+        ▹ (λ _. refl)
+        ▹ (λ _. refl)
+        ▹ (λ _. refl)
         ▹ (λ _. refl)
         ▹ (λ e. absurd (not-ewsr e))
-        ▹ (λ _. perhaps _ (long f 2) (perhaps _ (s .armed) (perhaps (WriteStatus (getD f 1 0) (dataOf s .«status_time»)) (not (s .bpl) || wp) refl)))
+        ▹ (λ _. refl)
         ▹ (λ e. absurd (not-wren e))
-        ▹ (λ _. perhaps WriteDisable (long f 1) refl)
-        ▹ (λ _. perhaps Sleep (long f 1) refl)
         ▹ (λ _. refl)
         ▹ (λ _. refl)
         ▹ (λ _. refl)
-        ▹ tt
+        ▹ (λ _. refl)
+        ▹ (λ _. refl)
+        ▹ tt)
 
     -- the row of a kind
     armed-by-kind : (kind : ℕ) → arms (look (rows (d .state) wp f) kind) ≡ (eqb (length f) 1 && isArming kind)

@@ -69,6 +69,7 @@ use Rattle.rules.proofs.Laws.Reads.{reads}
 use Rattle.rules.proofs.Laws.Switches.{switches}
 use Rattle.rules.proofs.Laws.Writes.{writes}
 use Rattle.rules.proofs.Laws.Ruled.{ruled}
+use Rattle.rules.proofs.Laws.StatusWrite.{cycle-exactly, status-write-rules}
 use Rattle.rules.proofs.Laws.Interrupted.{wrong-mask, interrupted}
 use Rattle.rules.proofs.Laws.Scripts.{script-bytes, reader-rules}
 use Rattle.rules.proofs.Laws.Running.{run-rules, script-rules}
@@ -309,9 +310,9 @@ frames wp f d line e =
       switches = switches a;
       writes = writes a;
       ruled = ruled a;
-      interrupted = λ shows registers change whole mask bytes taken.
-          interrupted a whole mask bytes (cut-number-accepted wp f d line mask taken .masked);
-      wrong-mask = λ shows registers change whole mask other. wrong-mask a whole mask other;
+      interrupted = λ other shows registers change whole mask bytes taken.
+          interrupted a whole (cycle-exactly a ∙ other) mask bytes (cut-number-accepted wp f d line mask taken .masked);
+      wrong-mask = λ other shows registers change whole mask wrong. wrong-mask a whole (cycle-exactly a ∙ other) mask wrong;
     }
 
 scripts : ScriptsAsIn01
@@ -344,4 +345,5 @@ demands-met = record {
   salvage = salvage-rules;
   flags = flags-rules;
   driven = driven-rules;
+  status-write = status-write-rules;
 }

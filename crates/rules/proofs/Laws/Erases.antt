@@ -43,7 +43,7 @@ use Rattle.rules.specs.Opcodes.{sizeOf, sectorIn, blockIn, isOpen}
 use Rattle.rules.specs.Unread.{isEraseOpen, isErasing}
 use Rattle.rules.proofs.Laws.Chips.{same-by-chip}
 use Rattle.rules.proofs.Laws.Kinds.{isExact, kind-exactly}
-use Rattle.rules.proofs.Laws.AtRest.{fails-when, at-rest-alone}
+use Rattle.rules.proofs.Laws.AtRest.{rows-fail, at-rest-alone}
 use Rattle.rules.proofs.Laws.Rows.{size-is, address-in}
 
 -- ---- of a command
@@ -54,9 +54,6 @@ isEraser c = isErase (effectOf c)
 abbrev Quiet : Command → Type 0
 Quiet c = isEraser c ≡ false
 
-perhaps : (c : Command) (t : Bool) → Quiet c → Quiet (when t c)
-perhaps = fails-when isEraser refl
-
 -- an erase, by its length and its target
 by-tests : (a b : Bool) (start count time : ℕ) → isEraser (when a (when b (Erase start count time))) ≡ (a && b)
 by-tests true true start count time = refl
@@ -66,25 +63,25 @@ by-tests false b start count time = refl
 module _ (s : State) (wp : Bool) (f : List ℕ) where
   rows-quiet : (kind : ℕ) → (kind ≡ sectorErase → ⊥) → (kind ≡ blockErase → ⊥) → (kind ≡ chipErase → ⊥) → AllRows Quiet kind (rows s wp f)
   rows-quiet kind no-sector no-block no-chip =
-      let a = address s f in
-      (λ _. refl)
+      rows-fail isEraser refl s wp f kind
+      ((λ _. refl)
       ▹ (λ _. refl)
       ▹ (λ e. absurd (no-sector e))
       ▹ (λ e. absurd (no-block e))
       ▹ (λ e. absurd (no-chip e))
-      ▹ (λ _. perhaps _ (long f 5) (perhaps (ProgramByte a) (writable s (a + 1)) refl))
-      ▹ (λ _. perhaps _ (leb 5 (length f)) (perhaps (ProgramPage a (length f - 4)) (writable s (a + 1)) (erase-told (pageEffect a (length f - 4)) .only-when (page-no-erase a (length f - 4)))))
-      ▹ (λ _. perhaps _ (long f 6) (perhaps (ProgramWord (a / 2 * 2) 4) (writable s (a / 2 * 2 + 2)) refl))
       ▹ (λ _. refl)
-      ▹ (λ _. perhaps Arm (long f 1) refl)
-      ▹ (λ _. perhaps _ (long f 2) (perhaps _ (s .armed) (perhaps (WriteStatus (getD f 1 0) (dataOf s .«status_time»)) (not (s .bpl) || wp) refl)))
-      ▹ (λ _. perhaps WriteEnable (long f 1) refl)
-      ▹ (λ _. perhaps WriteDisable (long f 1) refl)
-      ▹ (λ _. perhaps Sleep (long f 1) refl)
+      ▹ (λ _. erase-told (pageEffect (address s f) (length f - 4)) .only-when (page-no-erase (address s f) (length f - 4)))
       ▹ (λ _. refl)
       ▹ (λ _. refl)
       ▹ (λ _. refl)
-      ▹ tt
+      ▹ (λ _. refl)
+      ▹ (λ _. refl)
+      ▹ (λ _. refl)
+      ▹ (λ _. refl)
+      ▹ (λ _. refl)
+      ▹ (λ _. refl)
+      ▹ (λ _. refl)
+      ▹ tt)
 
   -- the row of a kind
   erases-by-kind : (kind : ℕ) → isEraser (look (rows s wp f) kind)

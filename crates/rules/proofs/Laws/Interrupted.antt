@@ -7,6 +7,7 @@ use Prim.Native.Nat.{ℕ, _+_, _<_}
 use native.Mathlib.Omega.{arith}
 use lib.Dec.{eqb}
 use lib.ListN.{length, getD}
+use borrow.Author.Tests.{ne-eqb}
 use Rattle.common.specs.Bits.{Bytes, bitAt}
 use Rattle.common.specs.Lists.{countBelow}
 use Rattle.common.specs.Refusals.{wrongMask}
@@ -27,6 +28,8 @@ use Rattle.effect.proofs.Laws.Mask.{mask-length-counts}
 use Rattle.effect.proofs.Laws.Cut.{cut-bit}
 use Rattle.frame.specs.Device.{Device}
 use Rattle.frame.specs.Line.{Line}
+use Rattle.frame.specs.Cut.{isStatusCycle, Masked}
+use Rattle.frame.proofs.Laws.Cut.{cut-of-other}
 use Rattle.frame.specs.Ran.{effectAt, stateAt, ranDevice, shownLine, maskWanted, tornDevice}
 use Rattle.frame.specs.Call.{Accepted, cutNumber, cutDevice, FrameRun, CutRun}
 use Rattle.frame.proofs.Laws.Inside.{effect-inside}
@@ -46,7 +49,7 @@ same-count one other same n =
     plus-none n = omega arith
 
 module _ {wp : Bool} {f : List ℕ} {d : Device} {line : Line} {shows : ℕ → Shown} {registers : State} {change : Change} (a : Accepted wp f d line)
-    (whole : Does wp f d line shows registers change) where
+    (whole : Does wp f d line shows registers change) (other : isStatusCycle (commandOf (d .state) wp f) ≡ false) where
   abbrev effect : Effect
   effect = effectAt (d .state) wp f
 
@@ -55,13 +58,15 @@ module _ {wp : Bool} {f : List ℕ} {d : Device} {line : Line} {shows : ℕ → 
 
   mask-wanted : maskWanted wp f d ≡ maskNeeded change d
   mask-wanted =
-      mask-length-counts effect (length (d .array))
+      rw other refl
+      ∙ mask-length-counts effect (length (d .array))
       (rw (a .sized) (effect-inside (d .state) (commandOf (d .state) wp f) (fits (d .state) wp f (a .sound)) .within))
       ∙ same-count (touches effect) (change .touched) (whole .touched-are) (length (d .array))
 
   -- "mask length wrong"
   pub wrong-mask : (mask : List ℕ) → (length mask ≡ maskNeeded change d → ⊥) → cutNumber wp f mask d line ≡ wrongMask
-  wrong-mask mask other = cut-number-unmasked wp f d line mask a (λ e. other (e ∙ mask-wanted))
+  wrong-mask mask wrong =
+      cut-number-unmasked wp f d line mask a (rw (ne-eqb (length mask) (maskWanted wp f d) (λ e. wrong (e ∙ mask-wanted))) refl)
 
   registers-are : stateAt (d .state) wp f ≡ registers
   registers-are = ap (λ (e : Device). e .state) (sym (ran-is wp f d) ∙ ran .device-is ∙ whole .device-is)
@@ -74,7 +79,7 @@ module _ {wp : Bool} {f : List ℕ} {d : Device} {line : Line} {shows : ℕ → 
       ∙ getD-mapi _ (d .array) k 0 b
       ∙ ap (λ (t : Bool). cond t (change .becomes k (getD (d .array) k 0)) (getD (d .array) k 0)) t
 
-  module _ (mask : List ℕ) (bytes : Bytes mask) (masked : length mask ≡ maskWanted wp f d) where
+  module _ (mask : List ℕ) (bytes : Bytes mask) (masked : Masked (commandOf (d .state) wp f) mask) where
     torn : CutRun wp f mask d line 0 (tornDevice wp f mask d) (shownLine wp f d)
     torn = cut-accepted wp f d line mask record { whole = a; masked = masked } record { device-is = refl; line-is = refl }
 
@@ -85,7 +90,7 @@ module _ {wp : Bool} {f : List ℕ} {d : Device} {line : Line} {shows : ℕ → 
     pub interrupted : Interrupted wp f mask d line shows registers change
     interrupted = record {
       line-is = sym (torn .line-is) ∙ ran .line-is ∙ whole .line-is;
-      mask-length = masked ∙ mask-wanted;
+      mask-length = masked .bytes ∙ mask-wanted;
       touched = λ k b i l t.
           ap (λ (x : ℕ). bitAt x b) (torn-byte k i)
           ∙ cut-bit effect f mask k (getD (d .array) k 0) b (whole .touched-are k ∙ t) (bytes _) l
@@ -94,6 +99,6 @@ module _ {wp : Bool} {f : List ℕ} {d : Device} {line : Line} {shows : ℕ → 
           ∙ ap (λ (x : ℕ). cond (eqb (bitAt (maskByte change mask k) b) 1) (bitAt x b) (bitAt (getD (d .array) k 0) b)) (byte-becomes k i t);
       untouched = λ k i t. torn-byte k i ∙ cut-other effect f k (getD (d .array) k 0) mask (whole .touched-are k ∙ t);
       same-length = ap (λ (e : Device). length (e .array)) (sym (torn .device-is) ∙ torn-is wp f d mask) ∙ length-mapi (cut effect f mask) (d .array);
-      state-is = ap (λ (e : Device). e .state) (sym (torn .device-is) ∙ torn-is wp f d mask) ∙ ap poweredUp registers-are
+      state-is = ap (λ (e : Device). e .state) (sym (torn .device-is) ∙ torn-is wp f d mask) ∙ ap poweredUp (cut-of-other (d .state) (commandOf (d .state) wp f) mask other ∙ registers-are)
           ∙ ap (λ (x : Answer). x .state) (sym (power-up-granted registers (rw registers-are at (rw (ran-is wp f d) at (ran-sound wp f d (a .sound))))));
     }

@@ -1,6 +1,6 @@
 -- Steps 1 and 4 read off their records: needed exactly where a byte that changes is protected, two frames each, and no others.
 -- Assumes nothing.
-use mathlib.Core.Path.{_≡_, sym, _∙_, ap}
+use mathlib.Core.Path.{_≡_, sym, _∙_, ap₂}
 use mathlib.Core.Bool.{true, false, cond, true≢false}
 use mathlib.Core.List.{List, [], _∷_}
 use mathlib.Core.Logic.{⊎-elim, _⊎_, inl, inr}
@@ -22,7 +22,7 @@ use Rattle.state.specs.declared.State.{State}
 use Rattle.state.specs.Protection.{firstProtected}
 use Rattle.script.specs.Record.{Record, frame}
 use Rattle.region.specs.Region.{changes}
-use Rattle.plan.specs.Plan.{isProtectedChange, stepOneNeeded, statusByte, statusRecords}
+use Rattle.plan.specs.Plan.{isProtectedChange, stepOneNeeded, statusByte, settle, statusRecords}
 use Rattle.plan.proofs.Laws.Steps.{not-needed-free, free-not-needed, status-byte-digits, status-records}
 use Rattle.rules.specs.PlanStatus.{ProtectedChange, StatusFrames}
 use Rattle.rules.proofs.Laws.Chips.{data-by-chip}
@@ -62,7 +62,8 @@ status-frames s bp h known =
     record {
       byte = byte;
       two-frames = status-records s bp
-          ∙ ap (λ (op : ℕ). frame (op ∷ []) ∷ frame (0x01 ∷ byte ∷ []) ∷ []) (data-by-chip (s .chip) known (λ (c : Chip). cond (c .ewsr) 0x50 0x06));
+          ∙ ap₂ (λ (op : ℕ) (rs : List Record). frame (op ∷ []) ∷ frame (0x01 ∷ byte ∷ []) ∷ rs)
+          (data-by-chip (s .chip) known (λ (c : Chip). cond (c .ewsr) 0x50 0x06)) (data-by-chip (s .chip) known (λ (c : Chip). settle (c .«status_time»)));
       bits-2-to-4 = omega arith;
       bit-5 = omega arith;
       bit-7 = omega arith;

@@ -22,7 +22,9 @@ use Rattle.state.proofs.Laws.Power.{power-up-granted, power-up-refused}
 use Rattle.state.proofs.Laws.Passed.{pass-time-granted, pass-time-refused}
 use Rattle.frame.specs.Device.{Device}
 use Rattle.frame.specs.Line.{Line, isNotLong}
-use Rattle.frame.specs.Ran.{maskWanted}
+use Rattle.frame.specs.Cut.{takesMask}
+use Rattle.frame.proofs.Laws.Cut.{masked-of, of-masked}
+use Rattle.command.specs.Command.{commandOf}
 use Rattle.frame.specs.Call.{frameRefusals, FrameRun, cutRefusals, CutRun}
 use Rattle.frame.proofs.Laws.Accepted.{frame-exactly, cut-exactly}
 use Rattle.frame.proofs.Laws.Call.{frame-refusal-keeps, cut-refusal-keeps}
@@ -116,13 +118,13 @@ module _ (wp : Bool) (f : List ℕ) (d : Device) (line : Line) where
 
   pub cut-refusals : (mask : List ℕ) (number : ℕ) (after : Device) (lineAfter : Line) (run : CutRun wp f mask d line number after lineAfter)
       → CutRefusals wp f mask d line number after lineAfter run
-  cut-refusals mask number after lineAfter run = record {
+  cut-refusals mask number after lineAfter run = let command = commandOf s wp f in record {
     numbers = numbered (cutRefusals wp f mask d line) _ number refl (run .number-is ∙ first-exactly (cutRefusals wp f mask d line) _ (cut-exactly wp f d line mask))
         (row (means-not-sound s) (λ _. refl)
         (λ sound. row (means-wrong-array s (not-false (isSound s) sound) (d .array)) (λ _. refl)
         (λ _. row means-wrong-frame (λ _. refl)
         (λ _. row means-wrong-output (λ _. refl)
-        (λ _. row (means-not (eqb (length mask) (maskWanted wp f d)) (means-equal (length mask) (maskWanted wp f d))) (λ _. refl) (λ _. tt))))));
+        (λ _. row (means-not (takesMask command mask) record { when = masked-of command mask; only-when = of-masked command mask }) (λ _. refl) (λ _. tt))))));
     refusal-keeps = cut-refusal-keeps wp f d line mask run;
   }
 

@@ -23,6 +23,7 @@ use Rattle.book.proofs.Laws.Answers.{is-read-state, count-state, marks-state}
 use Rattle.flags.proofs.Laws.Answers.{name-state, name-marks-state, moves-state, returns-state}
 use Rattle.rules.specs.Soundness.{SoundState, Soundness, EveryCallSound}
 use Rattle.rules.proofs.Laws.Chips.{data-by-chip}
+use Rattle.rules.proofs.Laws.StatusByte.{bits-of}
 use Rattle.rules.proofs.Laws.Tests.{off}
 
 module _ (s : State) where
@@ -56,6 +57,11 @@ module _ (s : State) where
     aai-next-at-least-2 = λ a. h .in-aai a .next-ge-2;
     aai-next-at-most = λ a. h .in-aai a .next-le-first;
     aai-next-below = λ a. h .in-aai a .next-lt-first;
+    pending-busy = λ p. h .while-pending p .busy;
+    pending-05pa = λ p. ⊎-elim (λ e. absurd (omega (arith, on-008a (λ c. c .«status_time») e, h .while-pending p .takes-time))) (λ e. e)
+        (known-number (s .chip) (h .chip-known));
+    without-pending = h .bits-0-without-pending;
+    pending-writable = h .bits-writable ∙ bits-of (s .«pending_bits»);
   }
 
   -- ---- and back
@@ -90,6 +96,9 @@ module _ (s : State) where
         next-le-first = w .aai-next-at-most a;
         next-lt-first = w .aai-next-below a;
       };
+      while-pending = λ p. record { busy = w .pending-busy p; takes-time = omega (arith, on-05pa (λ c. c .«status_time») (w .pending-05pa p)) };
+      bits-0-without-pending = w .without-pending;
+      bits-writable = w .pending-writable ∙ sym (bits-of (s .«pending_bits»));
     }
 
   pub soundness : Soundness s

@@ -21,9 +21,10 @@ use Rattle.state.specs.Answer.{granted}
 use Rattle.state.specs.Status.{statusOf}
 use Rattle.state.specs.Protection.{firstProtected}
 use Rattle.state.specs.Soundness.{isSound}
-use Rattle.state.specs.Power.{newState, newChip}
+use Rattle.state.specs.Power.{newState, newChip, poweredUp, powerUp}
 use Rattle.state.specs.Time.{cycleEnded, timePassed, passTime}
 use Rattle.state.proofs.Laws.Passed.{pass-time-granted}
+use Rattle.state.proofs.Laws.Power.{power-up-granted}
 use Rattle.state.proofs.Laws.Soundness.{sound-of}
 use Rattle.command.specs.Command.{address, writable, byKind, inAai, commandOf}
 use Rattle.registers.specs.Registers.{stateAfter}
@@ -36,9 +37,10 @@ use Rattle.frame.specs.Call.{Accepted}
 use Rattle.frame.proofs.Laws.Call.{frame-accepted}
 use Rattle.frame.proofs.Laws.Line.{line-same}
 use Rattle.frame.proofs.Laws.Ran.{ran-is, shown-is}
-use Rattle.samples.specs.Session.{Step, send, pass, byteIs, protects, plans, Runs, Session, Holds}
-use Rattle.samples.specs.Table.{frameSessions, drivenSessions, planSession, sessions}
-use Rattle.samples.proofs.Laws.Plan.{plan-holds}
+use Rattle.common.proofs.Laws.Pairs.{_▹_}
+use Rattle.samples.specs.Session.{Step, send, pass, powered, byteIs, protects, plans, Runs, Session, Holds}
+use Rattle.samples.specs.Table.{frameSessions, drivenSessions, statusSessions, planSession, protectedSession, sessions}
+use Rattle.samples.proofs.Laws.Plan.{plan-holds, protected-holds}
 use Rattle.output.proofs.Laws.Memory.{shown-by-memory}
 
 same : List ℕ → List ℕ → Bool
@@ -83,6 +85,7 @@ test size s m (send f output driven ∷ steps) =
     accepts size s f
     && ((same (line s f m .output) output && same (line s f m .driven) driven) && test size (stateAt s true f) (after s f m) steps)
 test size s m (pass n ∷ steps) = isSound s && test size (timePassed s n) m steps
+test size s m (powered ∷ steps) = isSound s && test size (poweredUp s) m steps
 test size s m (byteIs address byte ∷ steps) = ltb address size && (eqb (m address) byte && test size s m steps)
 test size s m (plans start wanted room script frames microseconds ∷ steps) = false
 test size s m (protects address answer ∷ steps) = bool-same (leb (firstProtected s) address) answer && test size s m steps
@@ -150,6 +153,10 @@ runs size (pass n ∷ steps) d m e a =
     let s = d .state in
     let z : passTime s n ≡ granted (timePassed s n) = pass-time-granted s n (sound-of s (and-l (isSound s) _ e)) in
     (ap (λ (x : Answer). x .number) z, rw z (runs size steps (withState d (timePassed s n)) m (and-r (isSound s) _ e) a))
+runs size (powered ∷ steps) d m e a =
+    let s = d .state in
+    let z : powerUp s ≡ granted (poweredUp s) = power-up-granted s (sound-of s (and-l (isSound s) _ e)) in
+    (ap (λ (x : Answer). x .number) z, rw z (runs size steps (withState d (poweredUp s)) m (and-r (isSound s) _ e) a))
 runs size (byteIs address byte ∷ steps) d m e a =
     let r = and-r (ltb address size) _ e in
     (byte-there size (d .array) m address byte a (ltb-true address size (and-l (ltb address size) _ e)) (eqb-true (m address) byte (and-l (eqb (m address) byte) _ r)), runs size steps d m (and-r (eqb (m address) byte) _ r) a)
@@ -169,10 +176,11 @@ all-hold (x ∷ xs) e =
     let t = test (dataOf (x .state) .size) (x .state) (λ _. x .fill) (x .steps) in
     (λ array n h. runs (dataOf (x .state) .size) (x .steps) (device (x .state) array) (λ _. x .fill) (and-l t (passes xs) e) (n, λ k b. h k (omega (arith, n))), all-hold xs (and-r t (passes xs) e))
 
-computed : passes (frameSessions ++ drivenSessions) ≡ true
-unfolding test accepts same bool-same isSound chipOf isKnown statusOf firstProtected newState newChip cycleEnded timePassed kindOf address writable byKind inAai commandOf stateAfter shownAt pageEffect touches struck changed within
+computed : passes (frameSessions ++ drivenSessions ++ statusSessions) ≡ true
+unfolding test accepts same bool-same isSound chipOf isKnown statusOf firstProtected newState newChip poweredUp cycleEnded timePassed kindOf address writable byKind inAai commandOf stateAfter shownAt pageEffect touches struck changed within
 computed = refl
 
 pub samples-hold : Each Holds sessions
 samples-hold =
-    each-append Holds (frameSessions ++ drivenSessions) (planSession ∷ []) (all-hold (frameSessions ++ drivenSessions) computed) (plan-holds, tt)
+    each-append Holds (frameSessions ++ drivenSessions ++ statusSessions) (planSession ∷ protectedSession ∷ [])
+    (all-hold (frameSessions ++ drivenSessions ++ statusSessions) computed) (plan-holds ▹ protected-holds ▹ tt)

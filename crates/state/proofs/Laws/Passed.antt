@@ -15,7 +15,7 @@ use Rattle.state.specs.Answer.{granted, refused}
 use Rattle.state.specs.Protection.{firstProtected}
 use Rattle.state.specs.Soundness.{isSound, Sound}
 use Rattle.state.specs.Power.{stateRefusal}
-use Rattle.state.specs.Time.{cycleEnded, timePassed, passTime}
+use Rattle.state.specs.Time.{statusWritten, cycleEnded, timePassed, passTime}
 use Rattle.state.proofs.Laws.Answer.{answer-sound, answer-unsound}
 use Rattle.state.proofs.Laws.Soundness.{sound-of, of-sound}
 use Rattle.state.proofs.Laws.Time.{time-passed-sound}
@@ -32,24 +32,31 @@ module _ (s : State) (n : ℕ) where
   time-idle z = rw (le-ltb n (s .left) (omega arith), eq-eqb (s .left) 0 z) refl
 
   module _ (busy : 0 < s .left) (over : s .left ≤ n) where
-    ended : timePassed s n ≡ cycleEnded s
+    pub time-ends-cycle : timePassed s n ≡ cycleEnded s
     unfolding timePassed
-    ended = rw (le-ltb n (s .left) over, ne-eqb (s .left) 0 (λ z. absurd (omega arith))) refl
+    time-ends-cycle = rw (le-ltb n (s .left) over, ne-eqb (s .left) 0 (λ z. absurd (omega arith))) refl
 
-    -- the cycle ends: WEL falls
-    pub time-ends : s .aai ≡ false → timePassed s n ≡ withWel (withLeft s 0) false
+    -- a status write's cycle ends: its bits are there, and WEL falls
+    pub time-ends-written : s .pending ≡ true → timePassed s n ≡ statusWritten s
     unfolding cycleEnded
-    time-ends a = rw (ended, a) refl
+    time-ends-written p = rw (time-ends-cycle, p) refl
 
-    -- in AAI it waits for the next word, below the first protected address
-    pub time-ends-in-aai : s .aai ≡ true → s .next < firstProtected s → timePassed s n ≡ withLeft s 0
-    unfolding cycleEnded
-    time-ends-in-aai a h = rw (ended, lt-ltb (s .next) (firstProtected s) h, a) refl
+    -- any other
+    module _ (other : s .pending ≡ false) where
+      -- ends: WEL falls
+      pub time-ends : s .aai ≡ false → timePassed s n ≡ withWel (withLeft s 0) false
+      unfolding cycleEnded
+      time-ends a = rw (time-ends-cycle, other, a) refl
 
-    -- and there AAI ends too
-    pub time-ends-aai : s .aai ≡ true → firstProtected s ≤ s .next → timePassed s n ≡ withWel (withAai (withLeft s 0) false 0) false
-    unfolding cycleEnded
-    time-ends-aai a h = rw (ended, le-ltb (s .next) (firstProtected s) h, a) refl
+      -- in AAI it waits for the next word, below the first protected address
+      pub time-ends-in-aai : s .aai ≡ true → s .next < firstProtected s → timePassed s n ≡ withLeft s 0
+      unfolding cycleEnded
+      time-ends-in-aai a h = rw (time-ends-cycle, lt-ltb (s .next) (firstProtected s) h, other, a) refl
+
+      -- and there AAI ends too
+      pub time-ends-aai : s .aai ≡ true → firstProtected s ≤ s .next → timePassed s n ≡ withWel (withAai (withLeft s 0) false 0) false
+      unfolding cycleEnded
+      time-ends-aai a h = rw (time-ends-cycle, le-ltb (s .next) (firstProtected s) h, other, a) refl
 
   -- ---- which chip it is never changes
 
@@ -61,7 +68,8 @@ module _ (s : State) (n : ℕ) where
   time-passed-chip =
       cond-elim Same (ltb n (s .left)) (λ _. refl)
       (λ _. cond-elim Same (eqb (s .left) 0) (λ _. refl)
-      (λ _. cond-elim Same (s .aai) (λ _. cond-elim Same (ltb (s .next) (firstProtected s)) (λ _. refl) (λ _. refl)) (λ _. refl)))
+      (λ _. cond-elim Same (s .pending) (λ _. refl)
+      (λ _. cond-elim Same (s .aai) (λ _. cond-elim Same (ltb (s .next) (firstProtected s)) (λ _. refl) (λ _. refl)) (λ _. refl))))
 
   -- ---- the call
 

@@ -31,6 +31,9 @@ at-rest-sound chip bp tb bpl k l t = record {
   aai-had = λ e. absurd (false≢true e);
   next-0-without-aai = λ _. refl;
   in-aai = λ e. absurd (false≢true e);
+  while-pending = λ e. absurd (false≢true e);
+  bits-0-without-pending = λ _. refl;
+  bits-writable = refl;
 }
 
 new-state-sound : (chip : ℕ) → isKnown chip ≡ true → Sound (newState chip)

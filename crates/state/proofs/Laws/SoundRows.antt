@@ -43,4 +43,4 @@ sound-rows-hold = all-hold rows computed
 
 pub reached-sound : Each (λ (s : State). isSound s ≡ true) reached
 unfolding isSound chipOf isKnown firstProtected
-reached-sound = (refl, (refl, (refl, (refl, tt))))
+reached-sound = (refl, (refl, (refl, (refl, (refl, (refl, tt))))))

@@ -1,7 +1,7 @@
 -- The test `isSound` says exactly `Sound`.
 -- Assumes nothing.
-use mathlib.Core.Path.{_≡_, refl, ap}
-use mathlib.Core.Bool.{true, false, _||_, not}
+use mathlib.Core.Path.{_≡_, refl, sym, ap, _∙_}
+use mathlib.Core.Bool.{true, false, _&&_, _||_, not, false≢true}
 use Prim.Native.Nat.{_%_, _≤_, _<_}
 use native.Mathlib.Omega.{arith}
 use lib.Dec.{leb, ltb, eqb}
@@ -11,10 +11,12 @@ use Rattle.common.proofs.Laws.Booleans.{and-l, and-r, and-i, not-i, or-imp, imp
 use Rattle.common.proofs.Laws.Choice.{cases}
 use Rattle.common.proofs.Laws.Pairs.{_▹_}
 use Rattle.chip.specs.Chip.{isKnown}
+use Rattle.chip.proofs.Laws.Chip.{regular}
 use Rattle.state.specs.declared.State.{State}
 use Rattle.state.specs.State.{dataOf}
 use Rattle.state.specs.Protection.{firstProtected}
-use Rattle.state.specs.Soundness.{allOf, isBusy, registerClauses, aaiClauses, isSound, Busy, Running, Sound}
+use Rattle.state.specs.Status.{writableBits}
+use Rattle.state.specs.Soundness.{allOf, isBusy, registerClauses, aaiClauses, pendingClauses, isSound, Busy, Running, Writing, Sound}
 use Rattle.state.proofs.Laws.Clauses.{Holds, each, all-each, fails-at, denied}
 
 -- ---- from the test to the words
@@ -35,11 +37,19 @@ running s k a = record {
       (implies-elim (s .aai) (isBusy s || ltb (s .next) (firstProtected s)) (k .1 .1 .1 .1 .1 .1 .1 .0) a) (le-ltb 0 (s .left) (omega arith)));
 }
 
+writing : (s : State) → Each Holds (pendingClauses s) → s .pending ≡ true → Writing s
+writing s k p = record {
+  busy = ltb-true 0 (s .left) (implies-elim (s .pending) (isBusy s) (k .0) p);
+  takes-time = ltb-true 0 (dataOf s .«status_time») (implies-elim (s .pending) (ltb 0 (dataOf s .«status_time»)) (k .1 .0) p);
+}
+
 pub sound-of : (s : State) → isSound s ≡ true → Sound s
 unfolding isSound
 sound-of s e =
-    let k = each (registerClauses s) (and-l (allOf (registerClauses s)) (allOf (aaiClauses s)) e) in
-    let m = each (aaiClauses s) (and-r (allOf (registerClauses s)) (allOf (aaiClauses s)) e) in
+    let two = and-l (allOf (registerClauses s) && allOf (aaiClauses s)) (allOf (pendingClauses s)) e in
+    let k = each (registerClauses s) (and-l (allOf (registerClauses s)) (allOf (aaiClauses s)) two) in
+    let m = each (aaiClauses s) (and-r (allOf (registerClauses s)) (allOf (aaiClauses s)) two) in
+    let p = each (pendingClauses s) (and-r (allOf (registerClauses s) && allOf (aaiClauses s)) (allOf (pendingClauses s)) e) in
     record {
       chip-known = k .0;
       bp-le-7 = leb-true (s .bp) 7 (k .1 .0);
@@ -56,6 +66,9 @@ sound-of s e =
       aai-had = implies-elim (s .aai) (dataOf s .aai) (k .1 .1 .1 .1 .1 .1 .1 .1 .1 .1 .0);
       next-0-without-aai = λ a. eqb-true (s .next) 0 (or-imp (s .aai) (eqb (s .next) 0) (m .0) a);
       in-aai = running s m;
+      while-pending = writing s p;
+      bits-0-without-pending = λ o. eqb-true (s .«pending_bits») 0 (or-imp (s .pending) (eqb (s .«pending_bits») 0) (p .1 .1 .0) o);
+      bits-writable = eqb-true (s .«pending_bits») (writableBits (s .«pending_bits»)) (p .1 .1 .1 .0);
     }
 
 -- ---- and back
@@ -71,6 +84,15 @@ of-running s r z =
     ▹ implies-i (s .aai) (leb (s .next) (firstProtected s)) (λ a. le-leb (s .next) (firstProtected s) (r a .next-le-first))
     ▹ implies-i (s .aai) (isBusy s || ltb (s .next) (firstProtected s)) (λ a. imp-or (isBusy s) (ltb (s .next) (firstProtected s))
     (λ b. lt-ltb (s .next) (firstProtected s) (r a .next-lt-first (let h = ltb-false 0 (s .left) b in omega arith))))
+    ▹ tt
+
+pub of-writing : (s : State) → (s .pending ≡ true → Writing s) → (s .pending ≡ false → s .«pending_bits» ≡ 0) → s .«pending_bits» ≡ writableBits (s .«pending_bits»)
+    → Each Holds (pendingClauses s)
+of-writing s w z b =
+    implies-i (s .pending) (isBusy s) (λ p. lt-ltb 0 (s .left) (w p .busy))
+    ▹ implies-i (s .pending) (ltb 0 (dataOf s .«status_time»)) (λ p. lt-ltb 0 (dataOf s .«status_time») (w p .takes-time))
+    ▹ imp-or (s .pending) (eqb (s .«pending_bits») 0) (λ o. eq-eqb (s .«pending_bits») 0 (z o))
+    ▹ eq-eqb (s .«pending_bits») (writableBits (s .«pending_bits»)) b
     ▹ tt
 
 -- the registers' clauses
@@ -102,8 +124,26 @@ pub of-sound : (s : State) → Sound s → isSound s ≡ true
 unfolding isSound
 of-sound s h =
     and-i
+    (and-i
     (of-registers s (h .chip-known) (h .bp-le-7) (h .left-le-chip-time) (h .while-busy) (h .armed-awake) (h .armed-enabled) (h .tb-had) (h .power-down-had) (h .aai-had))
-    (all-each (aaiClauses s) (of-running s (h .in-aai) (h .next-0-without-aai)))
+    (all-each (aaiClauses s) (of-running s (h .in-aai) (h .next-0-without-aai))))
+    (all-each (pendingClauses s) (of-writing s (h .while-pending) (h .bits-0-without-pending) (h .bits-writable)))
+
+-- ---- where nothing is pending
+
+module _ (s : State) (h : Sound s) where
+  -- at rest
+  pub still-not-pending : s .left ≡ 0 → s .pending ≡ false
+  still-not-pending z = cases (s .pending) (λ p. absurd (omega (arith, h .while-pending p .busy))) (λ o. o)
+
+  -- on a chip whose status write takes no time
+  pub untimed-not-pending : dataOf s .«status_time» ≡ 0 → s .pending ≡ false
+  untimed-not-pending z = cases (s .pending) (λ p. absurd (omega (arith, h .while-pending p .takes-time))) (λ o. o)
+
+  -- in AAI: a chip that has it has no such status write
+  pub aai-not-pending : s .aai ≡ true → s .pending ≡ false
+  aai-not-pending a =
+      cases (s .pending) (λ p. absurd (false≢true (sym (regular (s .chip) .timed (h .while-pending p .takes-time) .no-aai) ∙ h .aai-had a))) (λ o. o)
 
 -- ---- the code's test of "and then WEL is 1 and neither armed nor power-down holds"
 

@@ -6,12 +6,15 @@ use Prim.Native.Nat.{ℕ, _-_, _<_}
 use native.Mathlib.Omega.{arith}
 use lib.Dec.{ltb, eqb}
 use borrow.Author.Tests.{ltb-true, eqb-false}
+use Rattle.common.proofs.Laws.Booleans.{and-l}
 use Rattle.common.proofs.Laws.Choice.{cond-elim}
+use Rattle.chip.proofs.Laws.Chip.{regular}
 use Rattle.state.specs.declared.State.{State}
-use Rattle.state.specs.State.{withLeft, withWel, withAai}
+use Rattle.state.specs.State.{dataOf, withLeft, withWel, withAai}
 use Rattle.state.specs.Protection.{firstProtected}
+use Rattle.state.specs.Status.{has}
 use Rattle.state.specs.Soundness.{Sound}
-use Rattle.state.specs.Time.{cycleEnded, timePassed}
+use Rattle.state.specs.Time.{statusWritten, cycleEnded, timePassed}
 
 module _ (s : State) (h : Sound s) (b : 0 < s .left) where
   -- the cycle goes on
@@ -37,12 +40,15 @@ module _ (s : State) (h : Sound s) (b : 0 < s .left) where
       next-le-first = r .next-le-first;
       next-lt-first = λ z. absurd (omega arith);
     };
+    while-pending = λ p. record { busy = omega arith; takes-time = h .while-pending p .takes-time };
+    bits-0-without-pending = h .bits-0-without-pending;
+    bits-writable = h .bits-writable;
   }
 
   -- it ends in AAI, which waits for its next word
-  waits : s .aai ≡ true → s .next < firstProtected s → Sound (withLeft s 0)
+  waits : s .pending ≡ false → s .aai ≡ true → s .next < firstProtected s → Sound (withLeft s 0)
   unfolding firstProtected
-  waits a l = record {
+  waits o a l = record {
     chip-known = h .chip-known;
     bp-le-7 = h .bp-le-7;
     left-le-chip-time = omega arith;
@@ -62,11 +68,14 @@ module _ (s : State) (h : Sound s) (b : 0 < s .left) where
       next-le-first = r .next-le-first;
       next-lt-first = λ _. l;
     };
+    while-pending = λ p. absurd (true≢false (sym p ∙ o));
+    bits-0-without-pending = h .bits-0-without-pending;
+    bits-writable = h .bits-writable;
   }
 
   -- it ends, and WEL falls
-  ends : (t : State) → t ≡ withWel (withAai (withLeft s 0) false 0) false → Sound t
-  ends t e = rw e record {
+  ends : s .pending ≡ false → (t : State) → t ≡ withWel (withAai (withLeft s 0) false 0) false → Sound t
+  ends o t e = rw e record {
     chip-known = h .chip-known;
     bp-le-7 = h .bp-le-7;
     left-le-chip-time = omega arith;
@@ -78,18 +87,41 @@ module _ (s : State) (h : Sound s) (b : 0 < s .left) where
     aai-had = λ a. absurd (false≢true a);
     next-0-without-aai = λ _. refl;
     in-aai = λ a. absurd (false≢true a);
+    while-pending = λ p. absurd (true≢false (sym p ∙ o));
+    bits-0-without-pending = h .bits-0-without-pending;
+    bits-writable = h .bits-writable;
   }
 
   -- without AAI there is no next address to clear
   no-aai : s .aai ≡ false → withWel (withLeft s 0) false ≡ withWel (withAai (withLeft s 0) false 0) false
   no-aai a = rw (a, h .next-0-without-aai a) refl
 
-  ended-sound : Sound (cycleEnded s)
+  -- it was a status write's: the new bits are there, and WEL falls
+  written : s .pending ≡ true → Sound (statusWritten s)
+  written p = record {
+    chip-known = h .chip-known;
+    bp-le-7 = omega arith;
+    left-le-chip-time = omega arith;
+    while-busy = λ z. absurd (omega arith);
+    armed-awake = h .armed-awake;
+    armed-enabled = λ _ a. absurd (true≢false (sym a ∙ h .while-busy b .disarmed));
+    tb-had = λ e. and-l (dataOf s .«top_bottom») (has (s .«pending_bits») 32) e;
+    power-down-had = h .power-down-had;
+    aai-had = h .aai-had;
+    next-0-without-aai = h .next-0-without-aai;
+    in-aai = λ a. absurd (false≢true (sym (regular (s .chip) .timed (h .while-pending p .takes-time) .no-aai) ∙ h .aai-had a));
+    while-pending = λ e. absurd (false≢true e);
+    bits-0-without-pending = λ _. refl;
+    bits-writable = refl;
+  }
+
+  pub ended-sound : Sound (cycleEnded s)
   unfolding cycleEnded
   ended-sound =
-      cond-elim Sound (s .aai)
-      (λ a. cond-elim Sound (ltb (s .next) (firstProtected s)) (λ l. waits a (ltb-true (s .next) (firstProtected s) l)) (λ _. ends _ refl))
-      (λ a. ends _ (no-aai a))
+      cond-elim Sound (s .pending) written
+      (λ o. cond-elim Sound (s .aai)
+      (λ a. cond-elim Sound (ltb (s .next) (firstProtected s)) (λ l. waits o a (ltb-true (s .next) (firstProtected s) l)) (λ _. ends o _ refl))
+      (λ a. ends o _ (no-aai a)))
 
 pub time-passed-sound : (s : State) (n : ℕ) → Sound s → Sound (timePassed s n)
 unfolding timePassed

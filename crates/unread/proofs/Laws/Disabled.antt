@@ -88,12 +88,18 @@ module _ (s : State) (off : s .wel ≡ false) where
   closed : (c : Command) (end : ℕ) → Harmless s (when (writable s end) c)
   closed c end = perhaps c (writable s end) (λ w. never (open-of s end w .enabled))
 
+  -- so does a status write that takes time: a chip that has no 50 is armed by 06 alone
+  status-harmless : Sound s → (byte : ℕ) → s .armed ≡ true → Harmless s (WriteStatus byte (dataOf s .«status_time»))
+  status-harmless h byte armed =
+      ⊎-elim (λ timed. never (h .armed-enabled (regular (s .chip) .timed timed .no-ewsr) armed))
+      (λ none. let z : dataOf s .«status_time» ≡ 0 = omega arith in rw z (harmless refl (after-write-status s byte) refl)) (split 0 (dataOf s .«status_time»))
+
   module _ (wp : Bool) (f : List ℕ) (other : isWriteEnable (frame f) ≡ false) where
     abbrev op : ℕ
     op = getD f 0 0
 
-    rows-harmless : AllRows (Harmless s) (kindOf (s .chip) op) (rows s wp f)
-    rows-harmless =
+    rows-harmless : Sound s → AllRows (Harmless s) (kindOf (s .chip) op) (rows s wp f)
+    rows-harmless h =
         let a = address s f in
         (λ _. harmless refl (after-read-array s a 4) off)
         ▹ (λ _. harmless refl (after-read-array s a 5) off)
@@ -106,7 +112,7 @@ module _ (s : State) (off : s .wel ≡ false) where
         ▹ (λ _. harmless refl (after-read-status s) off)
         ▹ (λ _. perhaps Arm (long f 1) (λ _. harmless refl (after-arm s) off))
         ▹ (λ _. perhaps _ (long f 2) (λ _. perhaps _ (s .armed)
-        (λ _. perhaps (WriteStatus (getD f 1 0) (dataOf s .«status_time»)) (not (s .bpl) || wp) (λ _. harmless refl (after-write-status s (getD f 1 0) (dataOf s .«status_time»)) refl))))
+        (λ armed. perhaps (WriteStatus (getD f 1 0) (dataOf s .«status_time»)) (not (s .bpl) || wp) (λ _. status-harmless h (getD f 1 0) armed))))
         ▹ (λ k. perhaps WriteEnable (long f 1) (λ one. absurd (true≢false (sym (and-i one (eq-eqb op 0x06 (regular (s .chip) .wren-only-06 op k))) ∙ other))))
         ▹ (λ _. perhaps WriteDisable (long f 1) (λ _. harmless refl (after-write-disable s) refl))
         ▹ (λ _. perhaps Sleep (long f 1) (λ _. harmless refl (after-sleep s) off))
@@ -122,4 +128,4 @@ module _ (s : State) (off : s .wel ≡ false) where
         cases (s .«power_down»)
         (λ asleep. rw (seen-asleep s f wp still single asleep) (perhaps ReadSignature (eqb op 0xab) (λ _. harmless refl (after-read-signature s) off)))
         (λ awake. rw (seen-at-rest s f wp record { still = still; single = single; awake = awake })
-        (look-elim (Harmless s) ignored (rows s wp f) (kindOf (s .chip) op) rows-harmless))
+        (look-elim (Harmless s) ignored (rows s wp f) (kindOf (s .chip) op) (rows-harmless h)))

@@ -71,3 +71,13 @@ pub program-beside : ((wp : Bool) (array : List ℕ) → AlwaysProtected 0xf0000
     × Turns (atRest 8 1 false false) enabledProgram 0x1000 0xff 0xa5
 unfolding isSound isKnown chipOf firstProtected commandOf byKind kindOf stateAfter changed touches struck writable address within ranDevice step scriptLength
 program-beside = ((λ wp array. omega arith ▹ omega arith ▹ tt), turns enabled-program-fits refl (omega arith) (omega arith) (λ wp. refl))
+
+-- ---- the second can be met while a status write goes on: the old bits protect until its cycle ends
+
+-- 01 00 on the F25L05PA with BP 001; a microsecond before its end 05 shows BP 001, and all is protected before each record
+abbrev unprotecting : List Record
+unprotecting = frame (0x06 ∷ []) ∷ frame (0x01 ∷ 0x00 ∷ []) ∷ wait 4999 ∷ frame (0x05 ∷ 0x00 ∷ []) ∷ []
+
+pub protected-while-pending : (k : ℕ) (wp : Bool) (array : List ℕ) → AlwaysProtected k wp unprotecting (device (atRest 5 1 false false) array)
+unfolding isKnown chipOf firstProtected commandOf byKind kindOf stateAfter timePassed ranDevice step
+protected-while-pending k wp array = omega arith ▹ omega arith ▹ omega arith ▹ omega arith ▹ tt

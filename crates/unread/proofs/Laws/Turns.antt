@@ -14,7 +14,7 @@ use Rattle.state.specs.State.{dataOf}
 use Rattle.state.specs.Soundness.{isSound}
 use Rattle.state.specs.Power.{atRest}
 use Rattle.state.proofs.Laws.Soundness.{sound-of}
-use Rattle.script.specs.Record.{Record, frame, AllFit, encode, scriptLength, outputLength}
+use Rattle.script.specs.Record.{Record, frame, wait, AllFit, encode, scriptLength, outputLength}
 use Rattle.script.proofs.Laws.Decode.{decode-encode}
 use Rattle.frame.specs.Device.{Device, device}
 use Rattle.frame.specs.Line.{Line, Long}
@@ -80,9 +80,9 @@ enabledErase = frame (0x06 ∷ []) ∷ frame (0x20 ∷ 0x00 ∷ 0x10 ∷ 0x00 �
 abbrev pub enabledProgram : List Record
 enabledProgram = frame (0x06 ∷ []) ∷ program ∷ []
 
--- 50, or 06 on a chip that has no 50; 01 with BP 000
+-- 50, or 06 on a chip that has no 50; 01 with BP 000; and the time that it takes
 abbrev pub unprotectedProgram : Model → List Record
-unprotectedProgram m = frame (cond (m .chip .ewsr) 0x50 0x06 ∷ []) ∷ frame (0x01 ∷ 0x00 ∷ []) ∷ enabledProgram
+unprotectedProgram m = frame (cond (m .chip .ewsr) 0x50 0x06 ∷ []) ∷ frame (0x01 ∷ 0x00 ∷ []) ∷ wait (m .chip .«status_time») ∷ enabledProgram
 
 pub enabled-program-fits : AllFit enabledProgram
 enabled-program-fits = (omega arith, omega arith) ▹ (omega arith, omega arith) ▹ tt

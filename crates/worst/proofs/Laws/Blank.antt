@@ -15,6 +15,7 @@ use Rattle.common.proofs.Laws.Bits.{and-full}
 use Rattle.common.proofs.Laws.Booleans.{imp-or, or-none-i}
 use Rattle.common.proofs.Laws.Choice.{cases}
 use Rattle.common.proofs.Laws.Lists.{split}
+use Rattle.chip.proofs.Laws.Chip.{words-untimed}
 use Rattle.state.specs.declared.State.{State}
 use Rattle.state.specs.State.{dataOf}
 use Rattle.state.specs.Protection.{firstProtected}
@@ -35,7 +36,7 @@ use Rattle.plan.proofs.Laws.Steps.{not-needed-free, with-status-needed, program
 use Rattle.plan.proofs.Laws.Plan.{plan-measure}
 use Rattle.plan.proofs.Laws.Refusals.{accepted-region, of-accepted, refusal-short}
 use Rattle.plan.proofs.Laws.Update.{measured-length}
-use Rattle.worst.specs.Worst.{worstByWords, worstByPages, Reaches}
+use Rattle.worst.specs.Worst.{worstByWords, worstByPages, withWaits, Reaches}
 use Rattle.worst.proofs.Laws.Worst.{reported-is}
 
 -- ---- a plan of a known measure
@@ -134,11 +135,11 @@ module _ (s : State) (wp : Bool) (array : List ℕ) (blank : Blank s array) (wan
     all k h l = changing k h (omega arith) 0 (zeros (k - 1) (omega arith))
 
     -- 17 pages
-    pub pages-reached : dataOf s .«word_plans» ≡ false → Reaches s wp array 1 wanted worstByPages
+    pub pages-reached : dataOf s .«word_plans» ≡ false → Reaches s wp array 1 wanted (withWaits (dataOf s .«status_time») worstByPages)
     pages-reached e =
         let step = pages-step-whole d 1 (length wanted) (change-in-region array 1 wanted) all (wantedAt 1 wanted) (pagesIn 1 (length wanted)) 0
         (omega arith) (omega arith) (omega arith) (omega arith) (omega arith) in
-        reaches s wp array 1 wanted region (blank .unlocked) worstByPages
+        reaches s wp array 1 wanted region (blank .unlocked) (withWaits (dataOf s .«status_time») worstByPages)
         (plan-measure s array 1 wanted
         ∙ rw (needed (all 1 (omega arith) (omega arith)), program-pages (dataOf s .«word_plans») array 1 wanted e, step, with-status-needed, long) refl)
 
@@ -151,7 +152,7 @@ module _ (s : State) (wp : Bool) (array : List ℕ) (blank : Blank s array) (wan
         let step = words-step-counted (wantedAt 1 wanted) d 2049 0 (one-run d 2048 0 word-changes) in
         reaches s wp array 1 wanted region (blank .unlocked) mostTime
         (plan-measure s array 1 wanted
-        ∙ rw (needed (all 1 (omega arith) (omega arith)), program-words (dataOf s .«word_plans») array 1 wanted e, long, step, with-status-needed) refl)
+        ∙ rw (needed (all 1 (omega arith) (omega arith)), program-words (dataOf s .«word_plans») array 1 wanted e, long, step, words-untimed (s .chip) e, with-status-needed) refl)
 
   -- ---- every second word is to be 00, the words between FF
 
@@ -176,5 +177,5 @@ module _ (s : State) (wp : Bool) (array : List ℕ) (blank : Blank s array) (wan
         let step = words-step-counted (wantedAt 1 wanted) d 2049 0 (single-words d 1024 0 refl second-changes between-stays) in
         reaches s wp array 1 wanted region (blank .unlocked) mostFrames
         (plan-measure s array 1 wanted
-        ∙ rw (needed (falling 1 (omega arith) (omega arith) (omega arith)), program-words (dataOf s .«word_plans») array 1 wanted e, long, step, with-status-needed)
+        ∙ rw (needed (falling 1 (omega arith) (omega arith) (omega arith)), program-words (dataOf s .«word_plans») array 1 wanted e, long, step, words-untimed (s .chip) e, with-status-needed)
         refl)

@@ -66,7 +66,7 @@ zeros-bytes i h = rw (zeros i h) (omega arith)
 pub worst-reached : (wp : Bool) (array : List ℕ) → length array ≡ 65536 → ((k : ℕ) → k < 65536 → getD array k 0 ≡ 0xff)
     → Reaches (atRest 5 1 false false) wp array 1 (replicate 4096 0) (worstOf f25l05pa)
 worst-reached wp array sized erased =
-    pages-reached (atRest 5 1 false false) wp array (blank-05pa array sized erased) (replicate 4096 0) zeros-long zeros-bytes zeros (rw chip-of-5 refl)
+    rw chip-of-5 at (pages-reached (atRest 5 1 false false) wp array (blank-05pa array sized erased) (replicate 4096 0) zeros-long zeros-bytes zeros (rw chip-of-5 refl))
 
 -- the F25L008A, new
 pub time-reached : (wp : Bool) (array : List ℕ) → length array ≡ 1048576 → ((k : ℕ) → k < 1048576 → getD array k 0 ≡ 0xff)

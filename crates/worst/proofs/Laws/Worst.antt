@@ -8,8 +8,8 @@ use native.Mathlib.Omega.{arith}
 use lib.ListN.{length}
 use Rattle.common.specs.Limits.{longestWanted}
 use Rattle.common.specs.Refusals.{bufferTooShort}
-use Rattle.common.proofs.Laws.Choice.{cases, cond-elim}
-use Rattle.chip.specs.declared.Chip.{Chip}
+use Rattle.common.proofs.Laws.Choice.{cases}
+use Rattle.chip.proofs.Laws.Chip.{words-untimed}
 use Rattle.state.specs.declared.State.{State}
 use Rattle.state.specs.State.{dataOf}
 use Rattle.script.specs.Record.{encode}
@@ -22,33 +22,33 @@ use Rattle.state.specs.declared.Planned.{Planned}
 use Rattle.plan.specs.Plan.{stepOneNeeded, planRecords, withStatusSteps}
 use Rattle.plan.specs.Refusals.{planRefusal}
 use Rattle.plan.specs.Update.{PlanUpdated}
-use Rattle.plan.proofs.Laws.Steps.{program-words, program-pages, step-two-most, step-two-frames-or-time, step-three-most, with-status-most}
+use Rattle.plan.proofs.Laws.Steps.{program-words, program-pages, step-two-most, step-two-frames-or-time, step-three-most, with-status-most, wait-bytes-le}
 use Rattle.plan.proofs.Laws.Plan.{plan-measure}
 use Rattle.plan.proofs.Laws.Refusals.{of-accepted, accepted-of, too-short-of}
 use Rattle.plan.proofs.Laws.Update.{measured-length, plan-counts}
-use Rattle.worst.specs.Worst.{worstByWords, worstByPages, worstOf, reported}
+use Rattle.worst.specs.Worst.{worstByWords, worstByPages, withWaits, worstOf, reported}
 
 -- ---- the records
 
 -- with steps 1 and 4
 module _ (array : List ℕ) (start : ℕ) (wanted : List ℕ) (short : length wanted ≤ longestWanted) (needed : Bool) where
-  words-worst : AtMost (withStatusSteps needed (measureOf (stepTwo array start wanted))) worstByWords
-  words-worst =
+  words-worst : (time : ℕ) → AtMost (withStatusSteps time needed (measureOf (stepTwo array start wanted))) (withWaits time worstByWords)
+  words-worst time =
       let step = step-two-most array start wanted short in
-      let both = with-status-most (measureOf (stepTwo array start wanted)) needed in
+      let both = with-status-most time (measureOf (stepTwo array start wanted)) needed in
       record { frames = omega arith; microseconds = omega arith; bytes = omega arith }
 
-  pages-worst : AtMost (withStatusSteps needed (measureOf (stepThree array start wanted))) worstByPages
-  pages-worst =
+  pages-worst : (time : ℕ) → AtMost (withStatusSteps time needed (measureOf (stepThree array start wanted))) (withWaits time worstByPages)
+  pages-worst time =
       let step = step-three-most array start wanted short in
-      let both = with-status-most (measureOf (stepThree array start wanted)) needed in
+      let both = with-status-most time (measureOf (stepThree array start wanted)) needed in
       record { frames = omega arith; microseconds = omega arith; bytes = omega arith }
 
-  words-frames-or-time : 7 * withStatusSteps needed (measureOf (stepTwo array start wanted)) .frames
-      + withStatusSteps needed (measureOf (stepTwo array start wanted)) .microseconds ≤ 28728
+  words-frames-or-time : 7 * withStatusSteps 0 needed (measureOf (stepTwo array start wanted)) .frames
+      + withStatusSteps 0 needed (measureOf (stepTwo array start wanted)) .microseconds ≤ 28728
   words-frames-or-time =
       let step = step-two-frames-or-time array start wanted short in
-      let both = with-status-most (measureOf (stepTwo array start wanted)) needed in
+      let both = with-status-most 0 (measureOf (stepTwo array start wanted)) needed in
       omega arith
 
 -- every plan of at most 4,096 wanted bytes, whatever else it would be refused for
@@ -58,8 +58,8 @@ records-worst s array start wanted short =
     let needed : Bool = stepOneNeeded s array start wanted in
     rw (plan-measure s array start wanted)
     (cases (dataOf s .«word_plans»)
-    (λ w. rw (program-words (dataOf s .«word_plans») array start wanted w, w) (words-worst array start wanted short needed))
-    (λ w. rw (program-pages (dataOf s .«word_plans») array start wanted w, w) (pages-worst array start wanted short needed)))
+    (λ w. rw (program-words (dataOf s .«word_plans») array start wanted w, w) (words-worst array start wanted short needed (dataOf s .«status_time»)))
+    (λ w. rw (program-pages (dataOf s .«word_plans») array start wanted w, w) (pages-worst array start wanted short needed (dataOf s .«status_time»))))
 
 pub bytes-worst : (s : State) (array : List ℕ) (start : ℕ) (wanted : List ℕ) → length wanted ≤ longestWanted
     → length (encode (planRecords s array start wanted)) ≤ worstOf (dataOf s) .length
@@ -67,12 +67,14 @@ bytes-worst s array start wanted short =
     rw (← measured-length (planRecords s array start wanted) (measureOf (planRecords s array start wanted)) refl) (records-worst s array start wanted short .bytes)
 
 -- so, on every chip, no plan is longer than a script can be
-worst-le : (chip : Chip) → worstOf chip .length ≤ 26672
-worst-le chip = cond-elim (λ (m : Measure). m .length ≤ 26672) (chip .«word_plans») (λ _. omega arith) (λ _. omega arith)
+worst-le : (s : State) → worstOf (dataOf s) .length ≤ 26672
+worst-le s =
+    cases (dataOf s .«word_plans») (λ w. rw (w, words-untimed (s .chip) w) (omega arith))
+    (λ w. let waits = wait-bytes-le (dataOf s .«status_time») in rw w (omega arith))
 
 pub plan-le : (s : State) (array : List ℕ) (start : ℕ) (wanted : List ℕ) → length wanted ≤ longestWanted
     → length (encode (planRecords s array start wanted)) ≤ 26672
-plan-le s array start wanted short = omega (arith, bytes-worst s array start wanted short, worst-le (dataOf s))
+plan-le s array start wanted short = omega (arith, bytes-worst s array start wanted short, worst-le s)
 
 -- what is accepted in some room is accepted in this much
 pub accepted-in-worst : (s : State) (wp : Bool) (array : List ℕ) (start : ℕ) (wanted : List ℕ) (room more : ℕ)
@@ -101,8 +103,8 @@ module _ (s : State) (wp : Bool) (array : List ℕ) (start : ℕ) (wanted buffer
   frames-or-time e w =
       let short = accepted-of s array start wanted wp (length buffer) (sym (plans .number) ∙ e) .region .short in
       let needed : Bool = stepOneNeeded s array start wanted in
-      let whole : reported r ≡ withStatusSteps needed (measureOf (stepTwo array start wanted)) =
-      reported-is e ∙ plan-measure s array start wanted ∙ rw (program-words (dataOf s .«word_plans») array start wanted w) refl in
+      let whole : reported r ≡ withStatusSteps 0 needed (measureOf (stepTwo array start wanted)) =
+      reported-is e ∙ plan-measure s array start wanted ∙ rw (program-words (dataOf s .«word_plans») array start wanted w, words-untimed (s .chip) w) refl in
       let frames = ap (λ (m : Measure). m .frames) whole in
       let microseconds = ap (λ (m : Measure). m .microseconds) whole in
       omega (arith, words-frames-or-time array start wanted short needed)

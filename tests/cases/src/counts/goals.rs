@@ -6,7 +6,7 @@ use model::{kind, Reason, SECTOR};
 
 use super::salvage_sorts::{Miss, RoomSort, SectorSort};
 use super::sorts::{AskedSort, FrameSort, ListSort, PlanSort, ScriptSort, TimeSort, WrongBookSort};
-use super::{line_goals, names_goals, Met};
+use super::{line_goals, names_goals, status, Met};
 use crate::book::Promise;
 use crate::case::BAD_RECORD;
 use crate::salvage::{self, WRONG_LENGTHS};
@@ -62,6 +62,7 @@ pub fn goals() -> Vec<Goals> {
         goal("promises of A9 tested", 500, salvage_promises()),
     ];
     goals.extend(line_goals::goals());
+    goals.extend(status::goals());
     goals.extend(names_goals::goals());
     goals
 }
@@ -214,6 +215,7 @@ fn plan_sorts() -> Vec<Met> {
                 let can_be = match sort {
                     PlanSort::LockedButFree => !wp_high,
                     PlanSort::ProtectedButUnchanged => chip == F25L008A,
+                    PlanSort::BothAwaited => chip == F25L05PA,
                     _ => true,
                 };
                 if can_be {
@@ -241,6 +243,9 @@ fn mark_sorts() -> Vec<Met> {
     for chip in CHIPS {
         for wp_high in [false, true] {
             all.extend(ANY.map(|sort| Met::Mark { chip, wp_high, sort }));
+            if chip == F25L05PA {
+                all.push(Met::Mark { chip, wp_high, sort: PlanSort::BothAwaited });
+            }
         }
         all.push(Met::Mark { chip, wp_high: false, sort: PlanSort::LockedButFree });
     }
@@ -328,7 +333,12 @@ fn time_sorts() -> Vec<Met> {
     let mut all = Vec::new();
     for chip in CHIPS {
         for &sort in TimeSort::ALL {
-            if chip == F25L008A || !matches!(sort, TimeSort::AaiStays | TimeSort::AaiEnds) {
+            let own = match sort {
+                TimeSort::AaiStays | TimeSort::AaiEnds => F25L008A,
+                TimeSort::StatusGoesOn | TimeSort::StatusEnds => F25L05PA,
+                _ => chip,
+            };
+            if chip == own {
                 all.push(Met::Time { chip, sort });
             }
         }

@@ -9,6 +9,7 @@ mod names_goals;
 mod names_sorts;
 mod salvage_sorts;
 mod sorts;
+mod status;
 
 use std::collections::BTreeMap;
 
@@ -18,9 +19,10 @@ use crate::book::{self, Promise};
 use crate::case::{Case, On, Outcome, BAD_RECORD};
 use crate::generator::Item;
 use crate::names::Promise as NamesPromise;
+use crate::pending;
 use crate::salvage::{self, Call, Lent, Parts};
 use crate::side::Written;
-use crate::unread::Clause;
+use crate::unread::{Clause, Cycle};
 use crate::worst::{Found, Limit};
 use crate::CHIPS;
 pub use goals::{goals, Goals};
@@ -30,6 +32,7 @@ use names_sorts::{
 };
 use salvage_sorts::{Miss, RoomSort, SectorSort};
 use sorts::{AskedSort, FrameSort, ListSort, PlanSort, ScriptSort, TimeSort, WrongBookSort};
+use status::MaskSort;
 
 /// Something that a case can meet. An unknown chip has number 0, as has none.
 #[derive(Clone, Copy, Debug, PartialEq, Eq, PartialOrd, Ord)]
@@ -79,6 +82,18 @@ pub enum Met {
     Time { chip: u8, sort: TimeSort },
     /// The reader gave a record of this kind.
     Record { kind: u32 },
+    /// A call was given a sound state in which a status write is pending, and met this number.
+    Pending { call: &'static str, number: u32 },
+    /// A state broke this clause about pending ones alone, and was refused.
+    PendingBroken { call: &'static str, chip: u8, clause: pending::Clause },
+    /// A taken or ignored 01 was cut with such a mask.
+    StatusCut { chip: u8, ignored: Option<Reason>, mask: MaskSort, refused: bool },
+    /// An 05 was, while a status write was pending.
+    StatusReadCut { mask: MaskSort, refused: bool },
+    /// A status write of other bits than there were was cut with such a mask.
+    OtherBits { mask: MaskSort },
+    /// A script did this with a status write.
+    Cycle { cycle: Cycle },
     /// A script put this clause of A14 to the test.
     Tested { chip: u8, clause: Clause },
     /// A plan came within a hundredth of this limit of A8.
@@ -134,6 +149,10 @@ impl Counts {
     }
 
     pub fn note(&mut self, item: &Item, outcome: &Outcome, written: Written) {
+        if let Some(state) = item.case.state() {
+            self.note_pending(item.case.call(), state, outcome.number());
+        }
+        self.note_status_cut(&item.case, outcome.number());
         if outcome.number() == 0 {
             self.note_accepted(&item.case, outcome, written.buffer);
             self.note_shown(&item.case, written);

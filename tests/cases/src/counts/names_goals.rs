@@ -7,7 +7,7 @@ use super::names_sorts::{
 use super::sorts::{AskedSort, PlanSort, WrongBookSort};
 use super::Met;
 use crate::names::Promise;
-use crate::{CHIPS, F25L008A};
+use crate::{CHIPS, F25L008A, F25L05PA};
 
 const IS_READ: &str = "names_is_read";
 const MARK: &str = "names_mark";
@@ -101,6 +101,7 @@ fn plan_sorts() -> Vec<Met> {
         for chip in CHIPS {
             all.extend(SORTS.map(|sort| Met::NamesPlan { call, chip, sort }));
         }
+        all.push(Met::NamesPlan { call, chip: F25L05PA, sort: PlanSort::BothAwaited });
     }
     all
 }

@@ -7,6 +7,9 @@ use model::{Kind, State, LONGEST_REGION, LONGEST_SCRIPT, SCENES, SECTOR};
 use crate::case::On;
 use crate::{first_protected, size, F25L008A, F25L05PA};
 
+/// The wait for a status write of the 05PA.
+const STATUS_WAIT: [u8; 6] = [0x5A, 0x57, 0x00, 0x00, 0x13, 0x88];
+
 /// Declares a sort with the list of all its cases.
 macro_rules! sorts {
     ($name:ident { $($(#[$doc:meta])* $sort:ident),* $(,)? }) => {
@@ -30,6 +33,8 @@ sorts!(FrameSort {
     AddressBeyondSize,
     /// AAI's first word ends at the first protected address.
     WordAtBorder,
+    /// The status is shown while a write of other bits is pending.
+    StatusWhilePending,
 });
 
 sorts!(PlanSort {
@@ -47,6 +52,8 @@ sorts!(PlanSort {
     LockedButFree,
     /// Changes only below the border, in a region that passes it.
     ProtectedButUnchanged,
+    /// Steps 1 and 4 end with their wait.
+    BothAwaited,
 });
 
 sorts!(ListSort {
@@ -77,7 +84,7 @@ sorts!(AskedSort { AtRest, Busy, InAai, InPowerDown });
 
 sorts!(ScriptSort { Empty, LongestScript, MicrosecondsOver32Bits });
 
-sorts!(TimeSort { AtRest, BusyGoesOn, BusyEnds, AaiStays, AaiEnds });
+sorts!(TimeSort { AtRest, BusyGoesOn, BusyEnds, AaiStays, AaiEnds, StatusGoesOn, StatusEnds });
 
 pub fn holding<T: Copy, const N: usize>(sorts: [(bool, T); N]) -> impl Iterator<Item = T> {
     sorts.into_iter().filter_map(|(holds, sort)| holds.then_some(sort))
@@ -97,6 +104,8 @@ pub fn of_frame(state: &State, kind: Kind, frame: &[u8]) -> impl Iterator<Item =
     let word = kind == Kind::WordProgram && data == 2;
     let past_top = kind == Kind::Read && address + data > size(chip);
     let at_border = (address | 1) + 1 == first_protected(chip, state.bp);
+    let new_level = state.pending_bits >> 2 & 7;
+    let shows_old = kind == Kind::ReadStatus && state.pending && new_level != state.bp;
     holding([
         (page && address % 256 + data > 256, FrameSort::WrappedPage),
         (page && data > 256, FrameSort::PageOver256),
@@ -106,6 +115,7 @@ pub fn of_frame(state: &State, kind: Kind, frame: &[u8]) -> impl Iterator<Item =
         (word && address % 2 == 1, FrameSort::OddWordAddress),
         ((page || word) && named != address, FrameSort::AddressBeyondSize),
         (word && at_border, FrameSort::WordAtBorder),
+        (shows_old && frame.len() > 1, FrameSort::StatusWhilePending),
     ])
 }
 
@@ -122,6 +132,8 @@ pub fn of_plan(
         F25L008A => script.get(4) == Some(&0x50),
         _ => script.get(9) == Some(&0x01),
     };
+    // Behind the first 01, and at the end.
+    let awaited = script.get(11..17) == Some(&STATUS_WAIT) && script.ends_with(&STATUS_WAIT);
     let free = full && !step_1;
     let passes_border = region.end > first_protected(chip, bp);
     holding([
@@ -136,6 +148,7 @@ pub fn of_plan(
         (full && armed, PlanSort::FromArmed),
         (free && bpl && !on.wp_high, PlanSort::LockedButFree),
         (free && passes_border, PlanSort::ProtectedButUnchanged),
+        (step_1 && awaited, PlanSort::BothAwaited),
     ])
 }
 
@@ -204,6 +217,8 @@ pub fn of_script(script: &[u8], microseconds: u64) -> impl Iterator<Item = Scrip
 pub fn of_time(before: &State, after: &State) -> TimeSort {
     match (before.left, after.left) {
         (0, _) => TimeSort::AtRest,
+        (_, 0) if before.pending => TimeSort::StatusEnds,
+        _ if before.pending => TimeSort::StatusGoesOn,
         (_, 0) if !before.aai => TimeSort::BusyEnds,
         (_, 0) if after.aai => TimeSort::AaiStays,
         (_, 0) => TimeSort::AaiEnds,

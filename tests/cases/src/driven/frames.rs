@@ -2,7 +2,7 @@
 
 use model::Calls;
 
-use super::on_chip::Stand::{AtRest, Busy, BusyInAai, InAai, InPowerDown};
+use super::on_chip::Stand::{AtRest, Busy, BusyInAai, InAai, InPowerDown, InStatusWrite};
 use super::on_chip::{mask, shown, OnChip, Stand, CALLS};
 use crate::literal::bytes_text;
 use crate::{F25L008A, F25L05PA};
@@ -73,13 +73,15 @@ const ON_008A: [Sample; 53] = [
     (AtRest, &[0x70, 0, 0, 0, 0, 0], "-- -- -- -- -- --"),
 ];
 
-const ON_05PA: [Sample; 46] = [
+const ON_05PA: [Sample; 50] = [
     // 05: from byte 1, busy too; not in power-down.
     (AtRest, &[0x05], "--"),
     (AtRest, &[0x05, 0, 0], "-- 02 02"),
     (Busy, &[0x05, 0, 0], "-- 03 03"),
     (InPowerDown, &[0x05], "--"),
     (InPowerDown, &[0x05, 0, 0], "-- -- --"),
+    (InStatusWrite, &[0x05], "--"),
+    (InStatusWrite, &[0x05, 0, 0], "-- 03 03"),
     // 03: from byte 4; an FF of the array is driven.
     (AtRest, &[0x03, 0x00, 0x12, 0x34], "-- -- -- --"),
     (AtRest, &[0x03, 0x00, 0x12, 0x34, 0, 0, 0, 0], "-- -- -- -- A5 FF 00 FF"),
@@ -100,6 +102,7 @@ const ON_05PA: [Sample; 46] = [
     (AtRest, &[0x9F, 0, 0, 0, 0, 0, 0, 0], "-- 8C 30 10 -- -- -- --"),
     (Busy, &[0x9F, 0, 0, 0, 0], "-- -- -- -- --"),
     (InPowerDown, &[0x9F, 0, 0, 0, 0], "-- -- -- -- --"),
+    (InStatusWrite, &[0x9F, 0, 0, 0, 0], "-- -- -- -- --"),
     // AB: from byte 4, in power-down too.
     (AtRest, &[0xAB], "--"),
     (AtRest, &[0xAB, 0, 0, 0], "-- -- -- --"),
@@ -119,6 +122,7 @@ const ON_05PA: [Sample; 46] = [
     (InPowerDown, &[0x06], "--"),
     (AtRest, &[0x04], "--"),
     (AtRest, &[0x01, 0], "-- --"),
+    (InStatusWrite, &[0x01, 0], "-- --"),
     (AtRest, &[0x02, 0x00, 0x20, 0x00, 0x7E], "-- -- -- -- --"),
     (AtRest, &[0x20, 0x00, 0x20, 0x00], "-- -- -- --"),
     (AtRest, &[0xD8, 0x00, 0x20, 0x00], "-- -- -- --"),

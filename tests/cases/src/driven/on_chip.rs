@@ -14,6 +14,8 @@ pub enum Stand {
     InAai,
     BusyInAai,
     InPowerDown,
+    /// Of all bits, on a chip that has none of them.
+    InStatusWrite,
 }
 
 /// The calls.
@@ -54,6 +56,7 @@ impl<C: Calls> OnChip<C> {
             Stand::Busy => State { left: 5, ..rest },
             Stand::InAai => in_aai,
             Stand::BusyInAai => State { left: 5, ..in_aai },
+            Stand::InStatusWrite => State { pending: true, pending_bits: 0xBC, left: 5, ..rest },
             Stand::InPowerDown => State { wel: false, power_down: true, ..rest },
         };
         Self { state, array, calls: PhantomData }

@@ -30,7 +30,7 @@ impl Draft {
         if spoils && rng.coin() {
             on.state.bpl = true;
             on.wp_high = false;
-            on.state.bp = rng.pick(&[5, 6, 7, on.state.bp]);
+            on.state.bp = rng.pick(&[0, 5, 6, 7, on.state.bp]);
         }
         let target = target_of(&asked);
         let protected = target >= first_protected(chip, on.state.bp);

@@ -2,7 +2,7 @@
 
 use model::{Answer, Calls, Ran, State};
 
-use crate::{scripts, size, Rng};
+use crate::{scripts, size, Rng, F25L05PA};
 
 type Run = fn(State, bool, &mut [u8], &[u8], &mut [u8], &mut [u8]) -> Ran;
 type CutFrame = fn(&mut State, bool, &mut [u8], &[u8], &mut [u8], &mut [u8], &[u8]) -> u32;
@@ -14,7 +14,7 @@ pub enum Cut {
     Never,
     /// Before the record of this number, or behind the last.
     Before(usize),
-    /// Inside it.
+    /// Inside it; of a wait some has passed, but not all.
     Inside(usize, Mask),
 }
 
@@ -89,15 +89,18 @@ impl Powered {
                 (places[record], Some((inside, mask)))
             }
         };
-        let part = &script[..until];
-        let mut output = vec![0; scripts::frame_bytes(part)];
-        let mut driven = output.clone();
-        let Self { state, wp_high, array, .. } = self;
-        let ran = (self.run)(*state, *wp_high, array, part, &mut output, &mut driven);
-        accepted(ran.number)?;
-        self.state = ran.state;
-        if let Some(([0x5A, 0x46, _, _, frame @ ..], mask)) = inside {
-            return self.cut_inside(rng, frame, mask);
+        self.run_part(&script[..until])?;
+        match inside {
+            Some(([0x5A, 0x46, _, _, frame @ ..], mask)) => {
+                return self.cut_inside(rng, frame, mask);
+            }
+            Some(([0x5A, 0x57, a, b, c, d], _)) => {
+                let microseconds = u32::from_be_bytes([*a, *b, *c, *d]);
+                let mut part = Vec::new();
+                scripts::put_wait(&mut part, rng.below(microseconds as usize) as u32);
+                self.run_part(&part)?;
+            }
+            _ => {}
         }
         if cut != Cut::Never {
             let answer = (self.power_up)(self.state);
@@ -107,13 +110,24 @@ impl Powered {
         Ok(())
     }
 
+    fn run_part(&mut self, part: &[u8]) -> Result<(), u32> {
+        let mut output = vec![0; scripts::frame_bytes(part)];
+        let mut driven = output.clone();
+        let Self { state, wp_high, array, .. } = self;
+        let ran = (self.run)(*state, *wp_high, array, part, &mut output, &mut driven);
+        accepted(ran.number)?;
+        self.state = ran.state;
+        Ok(())
+    }
+
     fn cut_inside(&mut self, rng: &mut Rng, frame: &[u8], mask: Mask) -> Result<(), u32> {
-        let programmed = match frame[0] {
-            0xAD => 2,
-            0x02 => frame.len() - 4,
-            _ => 0,
+        let mask = match frame[0] {
+            0xAD => mask.bytes(rng, 2),
+            0x02 => mask.bytes(rng, frame.len() - 4),
+            // The old bits, or the new (02, A4).
+            0x01 if self.state.chip == F25L05PA => vec![rng.pick(&[0x00, 0xFF])],
+            _ => Vec::new(),
         };
-        let mask = mask.bytes(rng, programmed);
         let mut output = vec![0; frame.len()];
         let mut driven = output.clone();
         let number = (self.cut_frame)(

@@ -4,6 +4,7 @@
 
 mod array;
 mod clause;
+mod cycles;
 mod premises;
 mod script;
 mod shown;
@@ -17,6 +18,8 @@ use crate::case::footprint;
 use crate::{scripts, size, CHIPS, F25L008A};
 use array::{Array, ByteChange, Change, Changed};
 pub use clause::{Breach, Clause, Extent};
+use cycles::cycles;
+pub use cycles::Cycle;
 use premises::{Premises, Step};
 pub use script::Script;
 use shown::Shown;
@@ -42,6 +45,8 @@ pub struct Unread {
 pub struct Found {
     /// The clauses that the whole script put to the test.
     pub tested: Vec<Clause>,
+    /// What it did with status writes that take time.
+    pub cycles: Vec<Cycle>,
     pub breaches: Vec<Breach>,
     /// Whether both parties have the same state before each record, and the script shows and ends the
     /// same run whole and record by record.
@@ -72,7 +77,8 @@ impl Unread {
         let premises = steps.iter().fold(Premises::at(&script.state), Premises::and);
         let (state, changed) = self.run_whole(script);
         let tested = tested(&premises, &steps, script.wp_high, !changed.is_empty());
-        let mut found = Found { tested, breaches: Vec::new(), agrees: true };
+        let cycles = cycles(&steps, &state, script.wp_high);
+        let mut found = Found { tested, cycles, breaches: Vec::new(), agrees: true };
         let array = &self.chips[usize::from(script.state.chip != F25L008A)];
         for stretch in &changed {
             let change = array.change(stretch);

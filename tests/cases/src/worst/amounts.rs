@@ -25,7 +25,8 @@ pub enum Limit {
 }
 
 const WORST_008A: Amounts = Amounts { bytes: 26_672, frames: 3_079, microseconds: 14_343 };
-const WORST_05PA: Amounts = Amounts { bytes: 4_441, frames: 38, microseconds: 25_500 };
+/// With a wait behind each of the two status writes (02, A4).
+const WORST_05PA: Amounts = Amounts { bytes: 4_453, frames: 38, microseconds: 35_500 };
 
 impl Amounts {
     /// The worst over both chips, which the header and the binding name.

@@ -42,8 +42,8 @@ cut-change-requires c κs =
     rw (c .effect-of .ensures, c .before .before .before .before .before .before .before .before .before .before .command-of .ensures) (effect-inside (a .s) (commandOf (a .s) (a .wp) (a .input .now)) (fit p)) in
     (i .order, omega (arith, i .within, p .pre .whole .sized), omega (arith, p .pre .whole .sized, regular (a .s .chip) .size-le-mebibyte))
 
-state-after-requires : tie.Need-state-after-requires
-state-after-requires c κs = rw (c .before .before .before .before .before .before .before .before .before .before .before .before .before .command-of .ensures) (fit (c .before .before .before .before .before .before .before .before .before .before .before .before .before .before .before .before .before .before .before))
+state-cut-requires : tie.Need-state-cut-requires
+state-cut-requires c κs = rw (c .before .before .before .before .before .before .before .before .before .before .before .before .before .command-of .ensures) (fit (c .before .before .before .before .before .before .before .before .before .before .before .before .before .before .before .before .before .before .before))
 
 powered-up-requires : tie.Need-powered-up-requires
 powered-up-requires c κs = search needs
@@ -63,7 +63,7 @@ returns c =
     let shown = c .before .before .before .before .before .before .before .before .before .before .before .emit .ensures in
     let command = c .before .before .before .before .before .before .before .before .before .before .before .before .before .before .before .command-of .ensures in
     let same = c .before .before .before .before .before .before .before .before .before .before .before .before .before .before .before .before .before .before .before .before .before .pre .whole .same .output-long in
-    rw (c .powered-up .ensures, c .before .state-after .ensures, c .before .before .before .before .cut-change .ensures, c .before .before .before .before .before .effect-of .ensures, shown .0, shown .1, command, same)
+    rw (c .powered-up .ensures, c .before .state-cut .ensures, c .before .before .before .before .cut-change .ensures, c .before .before .before .before .before .effect-of .ensures, shown .0, shown .1, command, same)
     record { device-is = refl; line-is = refl }
 
 pub run-accepted-cut-spec : {M : Type 1} → statement M
@@ -74,7 +74,7 @@ run-accepted-cut-spec =
     emit-requires
     effect-of-requires
     cut-change-requires
-    state-after-requires
+    state-cut-requires
     powered-up-requires
     same-length
     same-length-2

@@ -1,11 +1,14 @@
--- `frame::call::cut_number` meets its contract: the frame's own number, then the mask's length.
+-- `frame::call::cut_number` meets its contract: the frame's own number, then the mask's.
 -- Assumes nothing.
 use mathlib.Core.Path.{_≡_, sym, _∙_}
+use borrow.Author.Tests.{not-true, not-false}
+use Rattle.command.specs.Command.{commandOf}
 use Rattle.command.proofs.Laws.Fits.{next-low}
 use Rattle.frame.specs.Device.{device}
 use Rattle.frame.specs.Line.{onLine}
-use Rattle.frame.specs.Ran.{maskWanted}
+use Rattle.frame.specs.Cut.{takesMask}
 use Rattle.frame.specs.Call.{Accepted}
+use Rattle.frame.proofs.Laws.Cut.{masked-of}
 use Rattle.frame.proofs.Laws.Accepted.{number-accepted, cut-accepted-number, cut-number-refused, cut-number-unmasked}
 use borrow.Author.Needs.{needs}
 use Rattle.frame.proofs.call.cut_number.Statement.{statement}
@@ -15,9 +18,9 @@ use Rattle.frame.proofs.call.cut_number.Tie as tie
 whole : (c : tie.Else1) → let a = c .before .before .before .before .before .before .before .args in Accepted (a .wp) (a .input .now) (device (a .s) (a .array .now)) (onLine (a .output .now) (a .driven .now))
 whole c = number-accepted _ _ _ _ (sym (c .before .frame-number .ensures) ∙ c .if1 .left)
 
--- the length that its mask is to have
-right : (c : tie.After-mask-length) → let a = c .before .before .before .before .before .before .before .before .before .before .args in c .mask-length .result ≡ maskWanted (a .wp) (a .input .now) (device (a .s) (a .array .now))
-right c = rw (c .before .effect-of .ensures, c .before .before .command-of .ensures) at (c .mask-length .ensures)
+-- whether it takes its mask
+right : (c : tie.After-takes-mask) → let a = c .before .before .before .before .before .before .before .before .before .args in c .takes-mask .result ≡ takesMask (commandOf (a .s) (a .wp) (a .input .now)) (a .mask .now)
+right c = rw (c .before .command-of .ensures) at (c .takes-mask .ensures)
 
 frame-number-requires : tie.Need-frame-number-requires
 frame-number-requires c κs = search needs
@@ -30,17 +33,18 @@ returns c =
 command-of-requires : tie.Need-command-of-requires
 command-of-requires c κs = (next-low _ (whole c .sound), whole c .short)
 
-effect-of-requires : tie.Need-effect-of-requires
-effect-of-requires c κs = search needs
-
-mask-length-requires : tie.Need-mask-length-requires
-mask-length-requires c κs = search needs
+takes-mask-requires : tie.Need-takes-mask-requires
+takes-mask-requires c κs = search needs
 
 returns-2 : tie.Need-returns-2
-returns-2 c = sym (cut-number-unmasked _ _ _ _ _ (whole (c .before .before .before .before)) (λ z. c .if2 .taken (z ∙ sym (right (c .before)))))
+returns-2 c = sym (cut-number-unmasked _ _ _ _ _ (whole (c .before .before .before)) (sym (right (c .before)) ∙ not-true (c .before .takes-mask .result) (c .if2 .taken)))
 
 returns-3 : tie.Need-returns-3
-returns-3 c = sym (cut-accepted-number _ _ _ _ _ record { whole = whole (c .before .before .before .before); masked = c .if2 .left ∙ right (c .before) })
+returns-3 c =
+    sym (cut-accepted-number _ _ _ _ _ record {
+      whole = whole (c .before .before .before);
+      masked = masked-of _ _ (sym (right (c .before)) ∙ not-false (c .before .takes-mask .result) (c .if2 .left));
+    })
 
 pub cut-number-spec : {M : Type 1} → statement M
 cut-number-spec =
@@ -49,7 +53,6 @@ cut-number-spec =
     frame-number-requires
     returns
     command-of-requires
-    effect-of-requires
-    mask-length-requires
+    takes-mask-requires
     returns-2
     returns-3)

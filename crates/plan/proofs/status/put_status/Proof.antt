@@ -1,4 +1,4 @@
--- `plan::status::put_status` meets its contract: nothing, or the two records one behind the other.
+-- `plan::status::put_status` meets its contract: nothing, or its records one behind the other.
 -- Assumes nothing.
 use native.Mathlib.Omega.{arith}
 use borrow.Author.Tests.{not-true, not-false}
@@ -7,7 +7,9 @@ use Rattle.script.specs.Record.{encode}
 use Rattle.common.proofs.Laws.Buffer.{Whole, left-start, put-none}
 use Rattle.script.proofs.Laws.Records.{encode-none}
 use Rattle.script.proofs.Laws.Writer.{record-room, record-turn, records-done}
+use Rattle.state.specs.State.{dataOf}
 use Rattle.plan.specs.Plan.{statusRecords}
+use Rattle.plan.proofs.Laws.Steps.{settle-none, settle-some}
 use Rattle.plan.proofs.status.put_status.Statement.{statement}
 use Rattle.plan.proofs.status.put_status.Tie as tie
 
@@ -44,15 +46,41 @@ put-frame-requires-2 c κs = (
       (rw (c .before .before .before .before .before .before .before .before .arming .ensures) at (c .before .before .before .before .before .put-frame .ensures)))),
 )
 
+chip-of-requires : tie.Need-chip-of-requires
+chip-of-requires c κs = search needs
+
 same-length : tie.Need-same-length
 same-length c = search needs
 
+-- a status write that is done at once: nothing is left
 returns-2 : tie.Need-returns-2
 unfolding statusRecords
 returns-2 c =
-    rw (not-false (c .before .before .before .before .before .before .before .before .before .before .before .before .before .before .args .needed) (c .before .before .before .before .before .before .before .before .before .before .before .before .if1 .left))
-    (records-done (record-turn _ _ (record-turn _ _ (begun (c .before .before .before .before .before .before .before .before .before .before .before .before))
-    (rw (c .before .before .before .before .before .before .before .before .before .before .before .arming .ensures) at (c .before .before .before .before .before .before .before .before .put-frame .ensures))) (rw (c .before .before .before .before .before .status-byte .ensures) at (c .before .before .put-frame2 .ensures))))
+    let none = settle-none _ (rw (c .before .chip-of .ensures) at (c .if2 .taken)) in
+    let left = record-turn _ _ (record-turn _ _ (begun (c .before .before .before .before .before .before .before .before .before .before .before .before .before .before)) (rw (c .before .before .before .before .before .before .before .before .before .before .before .before .before .arming .ensures) at (c .before .before .before .before .before .before .before .before .before .before .put-frame .ensures)))
+    (rw (c .before .before .before .before .before .before .before .status-byte .ensures) at (c .before .before .before .before .put-frame2 .ensures)) in
+    rw (not-false (c .before .before .before .before .before .before .before .before .before .before .before .before .before .before .before .before .args .needed) (c .before .before .before .before .before .before .before .before .before .before .before .before .before .before .if1 .left), none) (records-done (rw none at left))
+
+-- one that takes time: its wait is
+put-wait-requires : tie.Need-put-wait-requires
+unfolding statusRecords
+put-wait-requires c κs =
+    let some = settle-some (dataOf (c .before .before .before .before .before .before .before .before .before .before .before .before .before .before .before .before .before .args .s) .«status_time») (omega (arith, rw (c .before .before .chip-of .ensures) at (c .before .if2 .left))) in
+    let left = record-turn _ _ (record-turn _ _ (begun (c .before .before .before .before .before .before .before .before .before .before .before .before .before .before .before)) (rw (c .before .before .before .before .before .before .before .before .before .before .before .before .before .before .arming .ensures) at (c .before .before .before .before .before .before .before .before .before .before .before .put-frame .ensures)))
+    (rw (c .before .before .before .before .before .before .before .before .status-byte .ensures) at (c .before .before .before .before .before .put-frame2 .ensures)) in
+    rw (c .before .before .chip-of .ensures) (record-room _ _ (rw some at left))
+
+same-length-2 : tie.Need-same-length-2
+same-length-2 c = search needs
+
+returns-3 : tie.Need-returns-3
+unfolding statusRecords
+returns-3 c =
+    let some = settle-some (dataOf (c .before .before .before .before .before .before .before .before .before .before .before .before .before .before .before .before .before .before .before .before .args .s) .«status_time») (omega (arith, rw (c .before .before .before .before .before .chip-of .ensures) at (c .before .before .before .before .if2 .left))) in
+    let left = record-turn _ _ (record-turn _ _ (begun (c .before .before .before .before .before .before .before .before .before .before .before .before .before .before .before .before .before .before)) (rw (c .before .before .before .before .before .before .before .before .before .before .before .before .before .before .before .before .before .arming .ensures) at (c .before .before .before .before .before .before .before .before .before .before .before .before .before .before .put-frame .ensures)))
+    (rw (c .before .before .before .before .before .before .before .before .before .before .before .status-byte .ensures) at (c .before .before .before .before .before .before .before .before .put-frame2 .ensures)) in
+    rw (not-false (c .before .before .before .before .before .before .before .before .before .before .before .before .before .before .before .before .before .before .before .before .args .needed) (c .before .before .before .before .before .before .before .before .before .before .before .before .before .before .before .before .before .before .if1 .left), some)
+    (records-done (record-turn _ _ (rw some at left) (rw (c .before .before .before .before .before .chip-of .ensures) at (c .before .before .put-wait .ensures))))
 
 pub put-status-spec : {M : Type 1} → statement M
 put-status-spec =
@@ -65,5 +93,9 @@ put-status-spec =
     status-byte-requires
     slice-aggregate-put-frame-2
     put-frame-requires-2
+    chip-of-requires
     same-length
-    returns-2)
+    returns-2
+    put-wait-requires
+    same-length-2
+    returns-3)

@@ -15,8 +15,9 @@ const SCRIPTS: usize = 1_000;
 type Tried = (Clause, Extent);
 
 /// What copies have to break. One that keeps WEL has none to keep where WEL is 0 at the start and no
-/// 06 follows: only a part that begins where WEL is 0 again, by the right model, breaks the third.
-const HAVE_TO_BREAK: [(Fault, Tried); 11] = [
+/// 06 follows: only a part that begins where WEL is 0 again, by the right model, breaks the third. One
+/// that has a status write's bits too early writes where the old bits protect (02, A4).
+const HAVE_TO_BREAK: [(Fault, Tried); 16] = [
     (Fault::ByteStored, (Clause::NoBitRaised, Extent::Script)),
     (Fault::ByteStored, (Clause::NoBitRaised, Extent::Part)),
     (Fault::BusyNotAsked, (Clause::NoBitRaised, Extent::Script)),
@@ -28,6 +29,11 @@ const HAVE_TO_BREAK: [(Fault, Tried); 11] = [
     (Fault::FirstSectorUnprotected, (Clause::NoBitRaised, Extent::Script)),
     (Fault::FirstSectorUnprotected, (Clause::ProtectedKept, Extent::Script)),
     (Fault::FirstSectorUnprotected, (Clause::ProtectedKept, Extent::Part)),
+    (Fault::StatusAtOnceOn05pa, (Clause::ProtectedKept, Extent::Script)),
+    (Fault::StatusAtOnceOn05pa, (Clause::ProtectedKept, Extent::Part)),
+    (Fault::PendingProtectsAtOnce, (Clause::ProtectedKept, Extent::Script)),
+    (Fault::PendingProtectsAtOnce, (Clause::ProtectedKept, Extent::Part)),
+    (Fault::StatusCycleLeavesWel, (Clause::DisabledKept, Extent::Part)),
 ];
 
 /// The clauses that a copy breaks, each with the first script that shows it.

@@ -15,7 +15,7 @@ const PLANS: usize = 1_000;
 type OnChip = (u8, Breach);
 
 /// What copies have to break: on each chip all there is.
-const HAVE_TO_BREAK: [(Fault, OnChip); 14] = [
+const HAVE_TO_BREAK: [(Fault, OnChip); 20] = [
     (Fault::StepsNotCounted, (F25L008A, Breach::Miscounted)),
     (Fault::StepsNotCounted, (F25L05PA, Breach::Miscounted)),
     (Fault::RunNeverContinued, (F25L008A, Breach::Short)),
@@ -30,6 +30,12 @@ const HAVE_TO_BREAK: [(Fault, OnChip); 14] = [
     (Fault::StretchesSentApart, (F25L05PA, Breach::Above(Limit::FramesAndTime))),
     (Fault::PagesUnprotectedApart, (F25L05PA, Breach::Above(Limit::Bytes))),
     (Fault::PagesUnprotectedApart, (F25L05PA, Breach::Above(Limit::Frames))),
+    (Fault::StatusWait15000, (F25L05PA, Breach::Above(Limit::Microseconds))),
+    (Fault::StatusWait15000, (F25L05PA, Breach::Above(Limit::FramesAndTime))),
+    (Fault::StatusWaitOn008a, (F25L008A, Breach::Short)),
+    (Fault::StatusWaitOn008a, (F25L008A, Breach::Above(Limit::Bytes))),
+    (Fault::StatusWaitsNotTimed, (F25L05PA, Breach::Miscounted)),
+    (Fault::StatusWaitsNotMeasured, (F25L05PA, Breach::Miscounted)),
 ];
 
 /// The limits that a copy breaks, each with the first plan that shows it.

@@ -130,6 +130,11 @@ faults! {
     LongerEnableTaken
     FirstSectorUnprotected
     Bp2Protects05pa
+    HalfBlocksProtected
+    Level0ProtectsABlock
+    Levels6And7Open
+    NoTimePasses
+    EndIsARefusal
     ProtectionForgotten
     AaiPassesBorder
     WelClearedInAai
@@ -208,4 +213,46 @@ faults! {
     RefusedFrameClearsDriven
     RefusedCutClearsDriven
     RefusedRunClearsDriven
+    StatusAtOnceOn05pa
+    StatusCycleOn008a
+    StatusTime15000
+    StatusTime40000
+    BpAtOnce
+    TbAtOnce
+    BplAtOnce
+    PendingShown
+    PendingProtectsAtOnce
+    PlannedWhilePending
+    PendingBitsRaw
+    TbNotPending
+    StatusCycleClearsWel
+    StatusCycleLeavesWel
+    PendingKept
+    PendingBitsKept
+    PowerUpTakesPending
+    PowerUpStaysPending
+    PendingAtRestSound
+    BitsWithoutPendingSound
+    PendingBitsUnmasked
+    PendingOn008aSound
+    PendingBounded
+    PendingNothingUnsound
+    StatusMaskBitwise
+    StatusMaskNonzero
+    EmptyStatusMask
+    TwoByteStatusMask
+    StatusMask00Writes
+    StatusMaskFfKeeps
+    IgnoredStatusMask
+    StatusMaskOn008a
+    StatusReadMask
+    CutStatusTouchesArray
+    CutStatusStaysBusy
+    NoWaitAfterStep1
+    NoWaitAfterStep4
+    WaitBefore01
+    StatusWait15000
+    StatusWaitOn008a
+    StatusWaitsNotTimed
+    StatusWaitsNotMeasured
 }

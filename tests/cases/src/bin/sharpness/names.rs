@@ -11,7 +11,7 @@ use crate::broken::Broken;
 /// how many of the trials and of the histories, to those that have to break a promise, and to the
 /// right model.
 const CASES: usize = 10_000;
-const TRIALS: usize = 1_000;
+const TRIALS: usize = 2_000;
 const RIGHT_TRIALS: usize = 100;
 
 /// What copies have to break: all there is.

@@ -21,7 +21,7 @@ enum Part {
 type Tried = (Part, Promise);
 
 /// What copies have to break: all there is.
-const HAVE_TO_BREAK: [(Fault, Tried); 13] = [
+const HAVE_TO_BREAK: [(Fault, Tried); 15] = [
     (Fault::SceneBitFromTop, (Part::Answering, Promise::ListedRead)),
     (Fault::SceneBitFromTop, (Part::Marking, Promise::ListedRead)),
     (Fault::SceneBitFromTop, (Part::Marking, Promise::OthersKept)),
@@ -35,6 +35,8 @@ const HAVE_TO_BREAK: [(Fault, Tried); 13] = [
     (Fault::LongListCut, (Part::Marking, Promise::ListedRead)),
     (Fault::BookFromAddress0, (Part::Marking, Promise::OthersKept)),
     (Fault::MarkedAtAddress0, (Part::Marking, Promise::RestKept)),
+    (Fault::NoWaitAfterStep1, (Part::Marking, Promise::ListedRead)),
+    (Fault::WaitBefore01, (Part::Marking, Promise::ListedRead)),
 ];
 
 /// The promises that a copy breaks, each with the first mark that shows it.

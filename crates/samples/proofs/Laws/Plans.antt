@@ -67,6 +67,6 @@ module _ (array : List ℕ) (byte : getD array 0x1234 0 ≡ 0xff) where
   page-open = rw (here, page) refl
 
   pub page-protected : planRecords (atRest 5 1 false false) array 0x1234 fe
-      ≡ frame (0x06 ∷ []) ∷ frame (0x01 ∷ 0x00 ∷ []) ∷ (pagePlan ++ (frame (0x06 ∷ []) ∷ frame (0x01 ∷ 0x04 ∷ []) ∷ []))
+      ≡ frame (0x06 ∷ []) ∷ frame (0x01 ∷ 0x00 ∷ []) ∷ wait 5000 ∷ (pagePlan ++ (frame (0x06 ∷ []) ∷ frame (0x01 ∷ 0x04 ∷ []) ∷ wait 5000 ∷ []))
   unfolding planRecords stepOneNeeded chipOf firstProtected anyOf programStep statusRecords statusByte
   page-protected = rw (here, page) refl
