@@ -76,8 +76,8 @@ waited m chip = withState chip (passTime (chip .state) m .state)
 
 -- "Cut the power between any two records, or inside any programming, with any part of the bits due to fall having fallen": the chip powered up.
 -- Between: also before the first record and behind the last. Inside: the call "run an interrupted frame", for any frame, with any mask of bytes and any
--- line that the call accepts. During: when m of a wait's n microseconds have passed; before the last of them the chip is still busy with the word or
--- the page that it waits for
+-- line that the call accepts. During: when m of a wait's n microseconds have passed; before the last of them the chip is still busy with the word,
+-- the page or the status write that it waits for
 pub data CutShort (records : List Record) (wp : Bool) (chip : Device) : Device → Type 0 where
   between : (before after : List Record) → records ≡ before ++ after → CutShort records wp chip (powered (run wp before chip))
   inside : (before after : List Record) (f mask : List ℕ) (line : Line) → records ≡ before ++ (frame f ∷ after) → Bytes mask

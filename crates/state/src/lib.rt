@@ -6,7 +6,7 @@ pub mod status;
 pub mod time;
 
 ghost use mathlib.Core.Path.{_≡_};
-ghost use Rattle.state.specs.Answer.{granted, refused, refusedPlan, toldOf};
+ghost use Rattle.state.specs.Answer.{granted, refused, refusedPlan};
 
 // BUSY is "left above 0" and no field.
 #[repr(C)]

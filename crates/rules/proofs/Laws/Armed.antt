@@ -1,31 +1,20 @@
 -- What becomes of armed: only a taken 06, and on the F25L008A a taken 50, leaves it 1.
 -- Assumes nothing.
 use mathlib.Core.Path.{_≡_, refl, sym, ap, _∙_}
-use mathlib.Core.Bool.{Bool, true, false, _&&_, _||_, not}
+use mathlib.Core.Bool.{Bool, true, false, _&&_, _||_}
 use mathlib.Core.List.{List, [], _∷_}
-use Prim.Native.Nat.{ℕ, _+_, _-_, _*_, _/_}
-use lib.Dec.{leb, eqb}
-use lib.ListN.{length, getD}
+use Prim.Native.Nat.{ℕ}
+use lib.Dec.{eqb}
+use lib.ListN.{length}
 use borrow.Author.Tests.{eqb-true, eqb-false}
 use Rattle.common.proofs.Laws.Choice.{cases}
 use Rattle.common.proofs.Laws.Booleans.{or-none-i}
 use Rattle.common.proofs.Laws.Pairs.{_▹_}
 use Rattle.chip.specs.Kinds.{wren, ewsr}
 use Rattle.chip.specs.Chip.{kindOf}
-use Rattle.state.specs.State.{dataOf}
 use Rattle.command.specs.declared.Command.{Command}
-use Rattle.command.specs.declared.Command.the-variants.{
-  WriteEnable,
-  WriteDisable,
-  Arm,
-  WriteStatus,
-  Erase,
-  ProgramByte,
-  ProgramPage,
-  ProgramWord,
-  Sleep,
-}
-use Rattle.command.specs.Command.{when, long, address, writable, look, rows, commandOf}
+use Rattle.command.specs.declared.Command.the-variants.{WriteEnable, Arm}
+use Rattle.command.specs.Command.{when, long, look, rows, commandOf}
 use Rattle.command.specs.Fits.{Resting}
 use Rattle.command.proofs.Laws.Rows.{AllRows, look-elim}
 use Rattle.command.proofs.Laws.Modes.{seen-at-rest}

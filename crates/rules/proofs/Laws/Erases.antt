@@ -1,11 +1,11 @@
 -- Which accepted frames are taken erases: 20, D8, 60 and C7, each with its length, at rest, with WEL 1 and an unprotected target; and no other.
 -- Assumes nothing.
 use mathlib.Core.Path.{_≡_, refl, sym, ap, _∙_}
-use mathlib.Core.Bool.{Bool, true, false, _&&_, _||_, not, cond}
+use mathlib.Core.Bool.{Bool, true, false, _&&_, cond}
 use mathlib.Core.List.{List, [], _∷_}
 use Prim.Native.Nat.{ℕ, _+_, _-_, _*_, _/_}
-use lib.Dec.{leb, eqb}
-use lib.ListN.{length, getD}
+use lib.Dec.{eqb}
+use lib.ListN.{length}
 use borrow.Author.Tests.{eqb-true, eqb-false}
 use Rattle.common.proofs.Laws.Choice.{cases}
 use Rattle.common.proofs.Laws.Pairs.{_▹_}
@@ -15,17 +15,7 @@ use Rattle.chip.specs.Chip.{kindOf}
 use Rattle.state.specs.declared.State.{State}
 use Rattle.state.specs.State.{dataOf}
 use Rattle.command.specs.declared.Command.{Command}
-use Rattle.command.specs.declared.Command.the-variants.{
-  WriteEnable,
-  WriteDisable,
-  Arm,
-  WriteStatus,
-  Erase,
-  ProgramByte,
-  ProgramPage,
-  ProgramWord,
-  Sleep,
-}
+use Rattle.command.specs.declared.Command.the-variants.{Erase}
 use Rattle.command.specs.Command.{when, long, address, writable, look, rows, commandOf}
 use Rattle.command.specs.Fits.{Resting}
 use Rattle.command.proofs.Laws.Rows.{AllRows, look-elim}

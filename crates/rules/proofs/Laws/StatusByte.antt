@@ -1,13 +1,11 @@
 -- A status byte's bits: as the model reads them, by quotients, and as the rules do, one by one.
 -- Assumes nothing.
 use mathlib.Core.Path.{_≡_, refl, _∙_}
-use mathlib.Core.Bool.{Bool}
 use Prim.Native.Nat.{ℕ, _+_, _*_, _/_, _%_, _<_}
 use native.Mathlib.Nat.{div-div-eq-div-mul}
 use native.Mathlib.Omega.{arith}
 use Rattle.common.specs.Bits.{bitAt}
 use Rattle.common.proofs.Laws.Bits.{bit-is, bit-lt}
-use Rattle.state.specs.declared.State.{State}
 use Rattle.state.specs.Status.{has, writableBits}
 use Rattle.rules.specs.Status.{levelIn, isSet, bitsIn}
 use Rattle.rules.specs.Power.{written05PA}

@@ -4,7 +4,7 @@ use mathlib.Core.Path.{_≡_, refl, sym, ap, ap₂, _∙_}
 use mathlib.Core.Bool.{Bool, true, false, _&&_, _||_, not, false≢true}
 use mathlib.Core.List.{List, [], _∷_}
 use mathlib.Core.Logic.{_⊎_, inl, inr, ⊎-elim}
-use Prim.Native.Nat.{ℕ, zero, suc, _+_, _-_, _≤_, _<_}
+use Prim.Native.Nat.{ℕ, _+_, _-_, _≤_, _<_}
 use native.Mathlib.Omega.{arith}
 use lib.Dec.{ltb, eqb}
 use lib.ListN.{length, getD}
@@ -14,25 +14,23 @@ use Rattle.common.proofs.Laws.Choice.{cases}
 use Rattle.common.proofs.Laws.Pairs.{_▹_}
 use Rattle.chip.specs.declared.Chip.{Chip}
 use Rattle.chip.specs.Kinds.{wrsr}
-use Rattle.chip.specs.Instructions.{instructions008A, instructions05PA}
 use Rattle.chip.specs.Chip.{kindOf}
 use Rattle.chip.proofs.Laws.Chip.{chip-of-5, known-number}
 use Rattle.state.specs.declared.State.{State}
 use Rattle.state.specs.declared.Answer.{Answer}
-use Rattle.state.specs.State.{dataOf, withLeft}
-use Rattle.state.specs.Protection.{firstProtected}
-use Rattle.state.specs.Soundness.{isBusy, isSound, Sound}
+use Rattle.state.specs.State.{dataOf}
+use Rattle.state.specs.Soundness.{isBusy, Sound}
 use Rattle.state.specs.Status.{statusOf}
 use Rattle.state.specs.Power.{poweredUp, powerUp}
-use Rattle.state.specs.Time.{statusWritten, timePassed, passTime}
+use Rattle.state.specs.Time.{timePassed, passTime}
 use Rattle.state.proofs.Laws.Power.{powered-up-keeps}
 use Rattle.state.proofs.Laws.Protection.{first-by}
-use Rattle.state.proofs.Laws.Soundness.{sound-of, of-sound}
+use Rattle.state.proofs.Laws.Soundness.{of-sound}
 use Rattle.state.proofs.Laws.Status.{status-sum}
 use Rattle.state.proofs.Laws.Time.{time-passed-sound}
 use Rattle.state.proofs.Laws.Passed.{time-goes-on, time-ends-written, pass-time-granted}
 use Rattle.command.specs.declared.Command.{Command}
-use Rattle.command.specs.declared.Command.the-variants.{Ignored, WriteStatus}
+use Rattle.command.specs.declared.Command.the-variants.{WriteStatus}
 use Rattle.command.specs.Command.{when, long, look, rows, commandOf}
 use Rattle.command.specs.Fits.{Resting}
 use Rattle.command.proofs.Laws.Rows.{AllRows, look-elim}
@@ -41,15 +39,13 @@ use Rattle.registers.specs.Registers.{stateAfter}
 use Rattle.effect.proofs.Laws.Straight.{keep-array-cut}
 use Rattle.frame.specs.Device.{Device, device}
 use Rattle.frame.specs.Line.{Line}
-use Rattle.frame.specs.Cut.{statusTime, isStatusCycle, takesMask, Masked, stateCut}
-use Rattle.frame.specs.Ran.{cutAt, tornDevice, shownLine}
-use Rattle.frame.specs.Call.{Accepted, frameDevice, cutNumber, CutAccepted, cutDevice, cutLineAfter, CutRun}
+use Rattle.frame.specs.Cut.{statusTime, isStatusCycle, takesMask, stateCut}
+use Rattle.frame.specs.Call.{Accepted, frameDevice, cutNumber, CutAccepted, cutDevice}
 use Rattle.frame.proofs.Laws.Accepted.{number-accepted, cut-number-accepted, cut-accepted-number, cut-number-unmasked}
 use Rattle.frame.proofs.Laws.Call.{cut-accepted}
 use Rattle.frame.proofs.Laws.Cut.{cycle-keeps, cycle-left, cut-new, cut-old, masked-of}
 use Rattle.frame.proofs.Laws.Ran.{ran-is, ran-sound, torn-is}
 use Rattle.rules.specs.Chips.{byChip}
-use Rattle.rules.specs.Status.{bitsIn}
 use Rattle.rules.specs.Power.{kept05PA, written05PA}
 use Rattle.rules.specs.Frames.{opcode, isResting, isAmong, silent, unchanged, Does}
 use Rattle.rules.specs.Opcodes.{isStatusTaken, statusBegun}

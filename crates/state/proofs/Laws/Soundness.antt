@@ -136,10 +136,6 @@ module _ (s : State) (h : Sound s) where
   pub still-not-pending : s .left ≡ 0 → s .pending ≡ false
   still-not-pending z = cases (s .pending) (λ p. absurd (omega (arith, h .while-pending p .busy))) (λ o. o)
 
-  -- on a chip whose status write takes no time
-  pub untimed-not-pending : dataOf s .«status_time» ≡ 0 → s .pending ≡ false
-  untimed-not-pending z = cases (s .pending) (λ p. absurd (omega (arith, h .while-pending p .takes-time))) (λ o. o)
-
   -- in AAI: a chip that has it has no such status write
   pub aai-not-pending : s .aai ≡ true → s .pending ≡ false
   aai-not-pending a =

@@ -115,7 +115,7 @@ module _ (s : State) (h : Sound s) (b : 0 < s .left) where
     bits-writable = refl;
   }
 
-  pub ended-sound : Sound (cycleEnded s)
+  ended-sound : Sound (cycleEnded s)
   unfolding cycleEnded
   ended-sound =
       cond-elim Sound (s .pending) written

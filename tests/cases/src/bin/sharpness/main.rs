@@ -12,6 +12,7 @@ mod salvages;
 
 use std::fmt;
 use std::process::ExitCode;
+use std::thread;
 
 use cases::unread::Script;
 use cases::{explore, written_out, Difference};
@@ -42,8 +43,7 @@ fn main() -> ExitCode {
 
     let broken = "clause of A14 and script, limit of A8 and plan, promise of A2 and mark";
     println!("{:<28} {:>8}  {:<12}  {broken}", "wrong copy", "case", "call");
-    for fault in FAULTS {
-        let told = hunt(*fault, seed, &scripts);
+    for (fault, told) in FAULTS.iter().zip(hunt_all(seed, &scripts)) {
         println!("{:<28} {told}", format!("{fault:?}"));
         sharp &= told.is_enough(*fault);
     }
@@ -55,6 +55,20 @@ fn main() -> ExitCode {
         println!("not sharp, or the right model is wrong");
         ExitCode::FAILURE
     }
+}
+
+/// What tells each copy apart, in their order; the hunters take turns with them, one on each core.
+fn hunt_all(seed: u64, scripts: &[Script]) -> Vec<Told> {
+    let hunters = thread::available_parallelism().map_or(1, usize::from);
+    let share = |hunter| FAULTS.iter().skip(hunter).step_by(hunters);
+    let shares: Vec<Vec<Told>> = thread::scope(|scope| {
+        let hunts = |hunter| share(hunter).map(|fault| hunt(*fault, seed, scripts)).collect();
+        let started: Vec<_> =
+            (0..hunters).map(|hunter| scope.spawn(move || hunts(hunter))).collect();
+        started.into_iter().map(|hunter| hunter.join().expect("a hunt that ends")).collect()
+    });
+    let mut shares: Vec<_> = shares.into_iter().map(Vec::into_iter).collect();
+    (0..FAULTS.len()).filter_map(|copy| shares[copy % hunters].next()).collect()
 }
 
 /// What tells a copy apart.
