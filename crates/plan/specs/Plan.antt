@@ -50,11 +50,15 @@ planRecords s array start wanted =
     ++ (programStep (dataOf s .«word_plans») array start wanted  -- step 2 or 3
     ++ statusStep (stepOneNeeded s array start wanted) s (s .bp))  -- step 4: "after step 1, the same two frames with the old BP"
 
--- the bytes of two waits, behind status writes that take so much time
+-- the bytes of the wait behind a status write that takes so much time
 abbrev pub waitBytes : ℕ → ℕ
-waitBytes time = cond (ltb 0 time) 12 0
+waitBytes time = cond (ltb 0 time) 6 0
 
--- what a plan amounts to, from what its step 2 or 3 does: steps 1 and 4 are two frames each, of one and two bytes, and a wait where a status write takes time
+-- with those of steps 1 and 4
+abbrev pub withWaits : ℕ → Measure → Measure
+withWaits time m = record { length = m .length + 2 * waitBytes time; frames = m .frames; microseconds = m .microseconds + 2 * time }
+
+-- what a plan amounts to, from what its step 2 or 3 does: steps 1 and 4 are two frames each, of one and two bytes, and their waits
 unfoldable pub withStatusSteps : ℕ → Bool → Measure → Measure
 withStatusSteps time needed m =
-    cond needed (record { length = m .length + 22 + waitBytes time; frames = m .frames + 4; microseconds = m .microseconds + 2 * time }) m
+    cond needed (withWaits time (record { length = m .length + 22; frames = m .frames + 4; microseconds = m .microseconds })) m

@@ -63,11 +63,11 @@ pub fn put_status(needed: bool, s: State, bp: u8, buffer: &mut [u8], at: usize) 
     script::writer::put_wait(time, buffer, sent)
 }
 
-// The bytes of two waits, where a status write takes time.
+// The bytes of the wait behind a status write, where it takes time.
 fn wait_bytes(time: u32) -> u32
     ensures { λ r. ⌜ r ≡ waitBytes time ⌝ }
 {
-    if 0 < time { 12 } else { 0 }
+    if 0 < time { 6 } else { 0 }
 }
 
 // With steps 1 and 4 around it: two frames each, of one and two bytes, and a wait.
@@ -77,7 +77,7 @@ pub fn with_status_steps(time: u32, needed: bool, m: Measure) -> Measure
 {
     if needed {
         Measure {
-            length: m.length + 22 + wait_bytes(time),
+            length: m.length + 22 + 2 * wait_bytes(time),
             frames: m.frames + 4,
             microseconds: m.microseconds + 2 * time,
         }

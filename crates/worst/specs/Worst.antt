@@ -2,7 +2,7 @@
 use mathlib.Core.Path.{_≡_}
 use mathlib.Core.Bool.{Bool, cond}
 use mathlib.Core.List.{List}
-use Prim.Native.Nat.{ℕ, suc, _+_, _*_}
+use Prim.Native.Nat.{ℕ, suc}
 use lib.ListN.{length}
 use Rattle.common.specs.Refusals.{bufferTooShort}
 use Rattle.chip.specs.declared.Chip.{Chip}
@@ -10,7 +10,7 @@ use Rattle.state.specs.declared.State.{State}
 use Rattle.state.specs.State.{dataOf}
 use Rattle.script.specs.declared.measure.Measure.{Measure}
 use Rattle.state.specs.declared.Planned.{Planned}
-use Rattle.plan.specs.Plan.{waitBytes}
+use Rattle.plan.specs.Plan.{withWaits}
 use Rattle.plan.specs.Update.{PlanUpdated}
 
 -- "On the 008A: at most 3,079 frames, 14,343 µs and 26,672 script bytes.
@@ -21,11 +21,7 @@ worstByWords = record { frames = 3079; microseconds = 14343; length = 26672 }
 abbrev pub worstByPages : Measure
 worstByPages = record { frames = 38; microseconds = 25500; length = 4441 }
 
--- "plus A4's waits on the 05PA": behind its two status writes
-abbrev pub withWaits : ℕ → Measure → Measure
-withWaits time m = record { frames = m .frames; microseconds = m .microseconds + 2 * time; length = m .length + waitBytes time }
-
--- of a chip, by its data: steps 1 and 4 are in it
+-- of a chip, by its data: steps 1 and 4 are in it; "plus A4's waits on the 05PA"
 abbrev pub worstOf : Chip → Measure
 worstOf chip = withWaits (chip .«status_time») (cond (chip .«word_plans») worstByWords worstByPages)
 

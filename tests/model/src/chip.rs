@@ -1,5 +1,7 @@
 //! The two chips (000 and 004; 01, "The two chips and what is modelled").
 
+use crate::fault::Fault;
+
 /// What an opcode asks for.
 #[derive(Clone, Copy, Debug, PartialEq, Eq)]
 pub enum Kind {
@@ -113,6 +115,18 @@ impl Chip {
     /// An address modulo the size, which is a power of two.
     pub fn reduced(&self, address: usize) -> usize {
         address & (self.size - 1)
+    }
+
+    /// The first protected address of a level, by the table.
+    pub(crate) fn first_at<const FAULT: u8>(&self, level: u8) -> u32 {
+        let (size, first) = (self.size as u32, self.first_protected[usize::from(level)]);
+        match level {
+            _ if !self.aai => first,
+            0 if Fault::Level0ProtectsABlock.within(FAULT) => self.first_protected[1],
+            1..=5 if Fault::HalfBlocksProtected.within(FAULT) => size - (size - first) / 2,
+            6.. if Fault::Levels6And7Open.within(FAULT) => size,
+            _ => first,
+        }
     }
 
     pub fn kind(&self, opcode: u8) -> Kind {

@@ -186,10 +186,7 @@ pub fn run_cut<const FAULT: u8>(
     let effect =
         verdict.map_or(Effect::Nothing, |kind| Effect::of::<FAULT>(chip, state, kind, frame));
     let writes_status = cuts_status::<FAULT>(chip, state, verdict, frame);
-    match writes_status {
-        true => status_write::accept_mask::<FAULT>(mask)?,
-        false => effect.accept_mask(mask)?,
-    }
+    accept_mask::<FAULT>(writes_status, &effect, mask)?;
     if Fault::DrivenCheckedAfterMask.within(FAULT) && line.driven.len() != frame.len() {
         return Err(refusal::OUTPUT_LENGTH);
     }
@@ -213,6 +210,18 @@ pub fn run_cut<const FAULT: u8>(
         false => state.powered_up::<FAULT>(chip),
     };
     Ok(())
+}
+
+/// Whether the frame may be cut with this mask.
+fn accept_mask<const FAULT: u8>(
+    writes_status: bool,
+    effect: &Effect,
+    mask: &[u8],
+) -> Result<(), u32> {
+    match writes_status {
+        true => status_write::accept_mask::<FAULT>(mask),
+        false => effect.accept_mask(mask),
+    }
 }
 
 /// Whether the frame is a taken status write that takes time; then its mask is one byte.

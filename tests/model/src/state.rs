@@ -58,23 +58,11 @@ impl State {
             true => self.with_bits(chip, self.pending_bits).bp,
             false => self.bp,
         };
-        let first = self.first_at::<FAULT>(chip, bp & 7);
+        let first = chip.first_at::<FAULT>(bp & 7);
         if Fault::FirstSectorUnprotected.within(FAULT) && first < chip.size as u32 {
             return first + SECTOR as u32;
         }
         first
-    }
-
-    /// The first protected address of a level, by the chip's table.
-    fn first_at<const FAULT: u8>(&self, chip: &Chip, level: u8) -> u32 {
-        let (size, first) = (chip.size as u32, chip.first_protected[usize::from(level)]);
-        match level {
-            _ if !chip.aai => first,
-            0 if Fault::Level0ProtectsABlock.within(FAULT) => chip.first_protected[1],
-            1..=5 if Fault::HalfBlocksProtected.within(FAULT) => size - (size - first) / 2,
-            6.. if Fault::Levels6And7Open.within(FAULT) => size,
-            _ => first,
-        }
     }
 
     /// The chip, if the state is sound.

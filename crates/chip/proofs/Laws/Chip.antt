@@ -152,11 +152,6 @@ pub regular : (number : ℕ) → Regular (chipOf number) (kindOf number)
 unfolding chipOf kindOf
 regular number = model-in RegularModel models model05PA models-regular regular-05pa number
 
--- where plans go by words a status write takes no time
-pub words-untimed : (number : ℕ) → chipOf number .«word_plans» ≡ true → chipOf number .«status_time» ≡ 0
-words-untimed number w =
-    ⊎-elim (λ timed. absurd (true≢false (sym w ∙ regular number .timed timed .by-pages))) (λ none. omega arith) (split 0 (chipOf number .«status_time»))
-
 -- the chip that stands in for an unknown one
 pub known-5 : isKnown 5 ≡ true
 unfolding isKnown
@@ -187,3 +182,17 @@ known-number number k =
 pub kind-of-is : (number op : ℕ) → kindOf number op ≡ kindIn (instructionsOf number) op
 unfolding kindOf
 kind-of-is number op = refl
+
+-- ---- a status write takes time, or is done at once
+
+module _ (number : ℕ) where
+  pub timed-or-at-once : Timed (chipOf number) ⊎ (chipOf number .«status_time» ≡ 0)
+  timed-or-at-once = ⊎-elim (λ some. inl (regular number .timed some)) (λ none. inr (omega arith)) (split 0 (chipOf number .«status_time»))
+
+  -- at once where plans go by words,
+  pub words-at-once : chipOf number .«word_plans» ≡ true → chipOf number .«status_time» ≡ 0
+  words-at-once w = ⊎-elim (λ t. absurd (true≢false (sym w ∙ t .by-pages))) (λ z. z) timed-or-at-once
+
+  -- and where 50 arms it
+  pub ewsr-at-once : chipOf number .ewsr ≡ true → chipOf number .«status_time» ≡ 0
+  ewsr-at-once e = ⊎-elim (λ t. absurd (true≢false (sym e ∙ t .no-ewsr))) (λ z. z) timed-or-at-once

@@ -4,7 +4,7 @@ use mathlib.Core.Path.{_≡_, refl, sym, ap, _∙_}
 use mathlib.Core.Bool.{Bool, true, false, true≢false}
 use mathlib.Core.List.{List, [], _∷_, _++_, append-nil}
 use mathlib.Core.Logic.{⊎-elim}
-use Prim.Native.Nat.{ℕ, _+_, _≤_}
+use Prim.Native.Nat.{ℕ, _+_, _*_, _≤_}
 use native.Mathlib.Omega.{arith}
 use lib.ListN.{length}
 use Rattle.common.proofs.Laws.Choice.{cases}
@@ -65,7 +65,7 @@ module _ (s : State) (array : List ℕ) (start : ℕ) (wanted : List ℕ) where
       let same = ap (λ (m : Measure). m .length) plan-measure in
       omega arith
 
-  pub length-with-status : needed ≡ true → length (encode (planRecords s array start wanted)) ≡ scriptLength programs + 22 + waitBytes (dataOf s .«status_time»)
+  pub length-with-status : needed ≡ true → length (encode (planRecords s array start wanted)) ≡ scriptLength programs + 22 + 2 * waitBytes (dataOf s .«status_time»)
   length-with-status e =
       let step = measured programs .bytes in
       let both = ap (λ (m : Measure). m .length) (with-status-needed (dataOf s .«status_time») (measureOf programs)) in

@@ -30,7 +30,7 @@ use Rattle.pages.specs.Pages.{pagesIn, stepThree}
 use Rattle.pages.proofs.Laws.Pages.{pages-step-fits, pages-step-none, pages-step-unchanged}
 use Rattle.pages.proofs.Laws.Region.{pages-step-most}
 use Rattle.pages.proofs.Laws.Fewer.{pages-no-longer}
-use Rattle.plan.specs.Plan.{isProtectedChange, stepOneNeeded, statusByte, settle, statusRecords, statusStep, programStep, waitBytes, withStatusSteps}
+use Rattle.plan.specs.Plan.{isProtectedChange, stepOneNeeded, statusByte, settle, statusRecords, statusStep, programStep, waitBytes, withWaits, withStatusSteps}
 
 -- whether step 1 is needed for the i-th byte of the region
 pub protected-at : (first : ℕ) (array : List ℕ) (start : ℕ) (wanted : List ℕ) (i : ℕ) → i < length wanted
@@ -64,16 +64,10 @@ status-byte-digits bp false false = refl
 
 -- the wait behind a status write that takes time
 module _ (time : ℕ) where
-  abbrev settleBytes : ℕ
-  settleBytes = cond (ltb 0 time) 6 0
-
-  settle-counts : Counts (settle time) settleBytes 0 time
+  settle-counts : Counts (settle time) (waitBytes time) 0 time
   settle-counts =
       cases (ltb 0 time) (λ t. rw t (counts-as (counts-wait counts-none time) (omega arith) (omega arith) (omega arith)))
       (λ t. let none = ltb-false 0 time t in rw t (counts-as counts-none refl refl (omega arith)))
-
-  settle-twice : settleBytes + settleBytes ≡ waitBytes time
-  settle-twice = cases (ltb 0 time) (λ t. rw t refl) (λ t. rw t refl)
 
   pub settle-none : time ≡ 0 → settle time ≡ []
   settle-none z = rw z refl
@@ -81,8 +75,8 @@ module _ (time : ℕ) where
   pub settle-some : 0 < time → settle time ≡ wait time ∷ []
   settle-some some = rw (lt-ltb 0 time some) refl
 
-  pub wait-bytes-le : waitBytes time ≤ 12
-  wait-bytes-le = cond-elim (λ (n : ℕ). n ≤ 12) (ltb 0 time) (λ _. omega arith) (λ _. omega arith)
+  pub wait-bytes-le : waitBytes time ≤ 6
+  wait-bytes-le = cond-elim (λ (n : ℕ). n ≤ 6) (ltb 0 time) (λ _. omega arith) (λ _. omega arith)
 
   settle-fits : time ≤ 90000 → AllFit (settle time)
   settle-fits low = cond-elim AllFit (ltb 0 time) (λ _. (omega arith, tt)) (λ _. tt)
@@ -93,7 +87,7 @@ module _ (s : State) (bp : ℕ) where
   unfolding statusRecords
   status-records = refl
 
-  status-counts : Counts (statusRecords s bp) (11 + settleBytes (dataOf s .«status_time»)) 2 (dataOf s .«status_time»)
+  status-counts : Counts (statusRecords s bp) (11 + waitBytes (dataOf s .«status_time»)) 2 (dataOf s .«status_time»)
   unfolding statusRecords
   status-counts = counts-as (counts-frame (counts-frame (settle-counts (dataOf s .«status_time»)) _) _) (omega arith) (omega arith) (omega arith)
 
@@ -108,13 +102,12 @@ pub measure-status : (needed : Bool) (s : State) (bp : ℕ) (rs : List Record)
 unfolding withStatusSteps
 measure-status false s bp rs = rw (append-nil rs) refl
 measure-status true s bp rs =
-    let twice = settle-twice (dataOf s .«status_time») in
     measure-is (counts-as (counts-append (status-counts s 0) (counts-append (measured rs) (status-counts s bp))) (omega arith) (omega arith) (omega arith))
 
 -- they add nothing, or 22 bytes, 4 frames and two waits
 module _ (time : ℕ) (m : Measure) where
   abbrev withBoth : Measure
-  withBoth = record { length = m .length + 22 + waitBytes time; frames = m .frames + 4; microseconds = m .microseconds + 2 * time }
+  withBoth = withWaits time (record { length = m .length + 22; frames = m .frames + 4; microseconds = m .microseconds })
 
   pub with-status-needed : withStatusSteps time true m ≡ withBoth
   unfolding withStatusSteps

@@ -9,9 +9,8 @@ use native.Mathlib.Nat.{le-refl}
 use native.Mathlib.Omega.{arith}
 use lib.ListN.{length}
 use Rattle.common.proofs.Laws.Choice.{cases}
-use Rattle.common.proofs.Laws.Lists.{split}
 use Rattle.common.proofs.Laws.Places.{within-bounds}
-use Rattle.chip.proofs.Laws.Chip.{regular}
+use Rattle.chip.proofs.Laws.Chip.{Timed, timed-or-at-once}
 use Rattle.state.specs.declared.State.{State}
 use Rattle.state.specs.State.{dataOf}
 use Rattle.state.specs.Power.{atRest, poweredUp}
@@ -98,10 +97,10 @@ module _ (given : Device) (bp : ℕ) (wel armed : Bool) (wp : Bool) (start : ℕ
         (λ needed. rw (free-not-needed again now start wanted (λ k c. free-again k needed (e .0) c)) refl)) (woken .lock)
 
     -- refusal 10: a chip whose status write takes time keeps its bits, so it needs step 1 now only if it did before
-    needed-before : 0 < dataOf again .«status_time» → stepOneNeeded again now start wanted ≡ true → stepOneNeeded s array start wanted ≡ true
+    needed-before : Timed (dataOf again) → stepOneNeeded again now start wanted ≡ true → stepOneNeeded s array start wanted ≡ true
     needed-before timed needed =
         cases (stepOneNeeded s array start wanted) (λ e. e)
-        (λ e. let kept = woken .kept (regular (d .state .chip) .timed timed .keeps-bits) in
+        (λ e. let kept = woken .kept (timed .keeps-bits) in
         absurd (true≢false (sym needed ∙ free-not-needed again now start wanted (λ k c. free-again k e kept c))))
 
     accepted-again : (more : ℕ) → room + 22 ≤ more → Accepted again wp now start wanted more
@@ -121,7 +120,7 @@ module _ (given : Device) (bp : ℕ) (wel armed : Bool) (wp : Bool) (start : ℕ
         arith,
         accepted .roomy,
         plan-22-longer now array start wanted fewer again s (safe .held .same-chip)
-            (⊎-elim (λ timed. inr (needed-before timed)) (λ none. inl (omega arith)) (split 0 (dataOf again .«status_time»))),
+            (⊎-elim (λ timed. inr (needed-before timed)) inl (timed-or-at-once (again .chip))),
       );
     }
 

@@ -1,7 +1,7 @@
 -- Steps 1 and 4 of a plan: the two frames that write the protection bits, and the wait for them. The byte sent is read back as it was meant.
 -- Assumes nothing.
-use mathlib.Core.Path.{_≡_, refl, sym, ap, _∙_}
-use mathlib.Core.Bool.{Bool, true, false, _&&_, _||_, not, false≢true, true≢false}
+use mathlib.Core.Path.{_≡_, refl, ap, _∙_}
+use mathlib.Core.Bool.{Bool, true, false, _&&_, _||_, not, false≢true}
 use mathlib.Core.List.{List, [], _∷_}
 use mathlib.Core.Logic.{_⊎_, ⊎-elim}
 use Prim.Native.Nat.{ℕ, _+_, _*_, _/_, _%_, _≤_, _<_}
@@ -9,7 +9,7 @@ use native.Mathlib.Omega.{arith}
 use lib.Dec.{eqb}
 use Rattle.common.proofs.Laws.Choice.{cases}
 use Rattle.common.proofs.Laws.Lists.{split}
-use Rattle.chip.proofs.Laws.Chip.{regular}
+use Rattle.chip.proofs.Laws.Chip.{ewsr-at-once}
 use Rattle.state.specs.declared.State.{State}
 use Rattle.state.specs.State.{dataOf, withLeft, withWel, withBits, withPending}
 use Rattle.common.specs.Bits.{bit}
@@ -134,16 +134,12 @@ module _ (t : Task) (topped : t .chip .state .tb ≡ true → dataOf (t .chip .s
         (ran-quiet t (WriteStatus byte-sent time) (write-status (t .level) s bp true true byte-sent free) refl (held-at s bp held) near
         (rw (begun s to low topped bp some) (ran-wait t (rest s to false false) (ended s to low topped bp some) held-writing near ends)))
 
-    -- a chip that has 50 writes its bits at once
-    ewsr-at-once : dataOf s .ewsr ≡ true → time ≡ 0
-    ewsr-at-once e = ⊎-elim (λ some. absurd (true≢false (sym e ∙ regular (s .chip) .timed some .no-ewsr))) (λ none. omega arith) (split 0 time)
-
     pub status-ran : (wel armed : Bool) → Runs t (rest s to false false) z (statusRecords s to) (rest s bp wel armed) array
     status-ran wel armed =
         rw (status-records s to)
         (cases (dataOf s .ewsr)
         (λ e. rw e
-        (ran-quiet t Arm (arm (t .level) s bp wel armed e) refl (held-at s bp held) near (rw (after-arm (rest s bp wel armed)) (at-once wel (ewsr-at-once e)))))
+        (ran-quiet t Arm (arm (t .level) s bp wel armed e) refl (held-at s bp held) near (rw (after-arm (rest s bp wel armed)) (at-once wel (ewsr-at-once (s .chip) e)))))
         (λ e. rw e
         (ran-quiet t WriteEnable (write-enable (t .level) s bp wel armed) refl (held-at s bp held) near
         (rw (after-write-enable (rest s bp wel armed)) (⊎-elim in-time (λ none. at-once true (omega arith)) (split 0 time))))))

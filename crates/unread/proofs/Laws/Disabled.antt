@@ -15,7 +15,7 @@ use Rattle.common.proofs.Laws.Choice.{cond-elim, cases}
 use Rattle.common.proofs.Laws.Lists.{split}
 use Rattle.common.proofs.Laws.Pairs.{_▹_}
 use Rattle.chip.specs.Chip.{kindOf}
-use Rattle.chip.proofs.Laws.Chip.{regular}
+use Rattle.chip.proofs.Laws.Chip.{regular, timed-or-at-once}
 use Rattle.state.specs.declared.State.{State}
 use Rattle.state.specs.State.{dataOf}
 use Rattle.state.specs.Soundness.{Sound}
@@ -91,8 +91,8 @@ module _ (s : State) (off : s .wel ≡ false) where
   -- so does a status write that takes time: a chip that has no 50 is armed by 06 alone
   status-harmless : Sound s → (byte : ℕ) → s .armed ≡ true → Harmless s (WriteStatus byte (dataOf s .«status_time»))
   status-harmless h byte armed =
-      ⊎-elim (λ timed. never (h .armed-enabled (regular (s .chip) .timed timed .no-ewsr) armed))
-      (λ none. let z : dataOf s .«status_time» ≡ 0 = omega arith in rw z (harmless refl (after-write-status s byte) refl)) (split 0 (dataOf s .«status_time»))
+      ⊎-elim (λ timed. never (h .armed-enabled (timed .no-ewsr) armed)) (λ none. rw none (harmless refl (after-write-status s byte) refl))
+      (timed-or-at-once (s .chip))
 
   module _ (wp : Bool) (f : List ℕ) (other : isWriteEnable (frame f) ≡ false) where
     abbrev op : ℕ

@@ -15,7 +15,7 @@ use Rattle.common.proofs.Laws.Bits.{and-full}
 use Rattle.common.proofs.Laws.Booleans.{imp-or, or-none-i}
 use Rattle.common.proofs.Laws.Choice.{cases}
 use Rattle.common.proofs.Laws.Lists.{split}
-use Rattle.chip.proofs.Laws.Chip.{words-untimed}
+use Rattle.chip.proofs.Laws.Chip.{words-at-once}
 use Rattle.state.specs.declared.State.{State}
 use Rattle.state.specs.State.{dataOf}
 use Rattle.state.specs.Protection.{firstProtected}
@@ -30,13 +30,13 @@ use Rattle.words.proofs.Laws.Counts.{one-run, single-words}
 use Rattle.words.proofs.Laws.Words.{words-step-counted}
 use Rattle.pages.specs.Pages.{pagesIn}
 use Rattle.pages.proofs.Laws.Region.{pages-step-whole}
-use Rattle.plan.specs.Plan.{stepOneNeeded, planRecords}
+use Rattle.plan.specs.Plan.{stepOneNeeded, planRecords, withWaits}
 use Rattle.plan.specs.Refusals.{planRefusal, RegionAccepted}
 use Rattle.plan.proofs.Laws.Steps.{not-needed-free, with-status-needed, program-words, program-pages}
 use Rattle.plan.proofs.Laws.Plan.{plan-measure}
 use Rattle.plan.proofs.Laws.Refusals.{accepted-region, of-accepted, refusal-short}
 use Rattle.plan.proofs.Laws.Update.{measured-length}
-use Rattle.worst.specs.Worst.{worstByWords, worstByPages, withWaits, Reaches}
+use Rattle.worst.specs.Worst.{worstByWords, worstByPages, Reaches}
 use Rattle.worst.proofs.Laws.Worst.{reported-is}
 
 -- ---- a plan of a known measure
@@ -152,7 +152,7 @@ module _ (s : State) (wp : Bool) (array : List ℕ) (blank : Blank s array) (wan
         let step = words-step-counted (wantedAt 1 wanted) d 2049 0 (one-run d 2048 0 word-changes) in
         reaches s wp array 1 wanted region (blank .unlocked) mostTime
         (plan-measure s array 1 wanted
-        ∙ rw (needed (all 1 (omega arith) (omega arith)), program-words (dataOf s .«word_plans») array 1 wanted e, long, step, words-untimed (s .chip) e, with-status-needed) refl)
+        ∙ rw (needed (all 1 (omega arith) (omega arith)), program-words (dataOf s .«word_plans») array 1 wanted e, long, step, words-at-once (s .chip) e, with-status-needed) refl)
 
   -- ---- every second word is to be 00, the words between FF
 
@@ -177,5 +177,5 @@ module _ (s : State) (wp : Bool) (array : List ℕ) (blank : Blank s array) (wan
         let step = words-step-counted (wantedAt 1 wanted) d 2049 0 (single-words d 1024 0 refl second-changes between-stays) in
         reaches s wp array 1 wanted region (blank .unlocked) mostFrames
         (plan-measure s array 1 wanted
-        ∙ rw (needed (falling 1 (omega arith) (omega arith) (omega arith)), program-words (dataOf s .«word_plans») array 1 wanted e, long, step, words-untimed (s .chip) e, with-status-needed)
+        ∙ rw (needed (falling 1 (omega arith) (omega arith) (omega arith)), program-words (dataOf s .«word_plans») array 1 wanted e, long, step, words-at-once (s .chip) e, with-status-needed)
         refl)

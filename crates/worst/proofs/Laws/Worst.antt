@@ -9,7 +9,7 @@ use lib.ListN.{length}
 use Rattle.common.specs.Limits.{longestWanted}
 use Rattle.common.specs.Refusals.{bufferTooShort}
 use Rattle.common.proofs.Laws.Choice.{cases}
-use Rattle.chip.proofs.Laws.Chip.{words-untimed}
+use Rattle.chip.proofs.Laws.Chip.{words-at-once}
 use Rattle.state.specs.declared.State.{State}
 use Rattle.state.specs.State.{dataOf}
 use Rattle.script.specs.Record.{encode}
@@ -19,14 +19,14 @@ use Rattle.script.proofs.Laws.Measure.{measure-is}
 use Rattle.words.specs.Words.{stepTwo}
 use Rattle.pages.specs.Pages.{stepThree}
 use Rattle.state.specs.declared.Planned.{Planned}
-use Rattle.plan.specs.Plan.{stepOneNeeded, planRecords, withStatusSteps}
+use Rattle.plan.specs.Plan.{stepOneNeeded, planRecords, withWaits, withStatusSteps}
 use Rattle.plan.specs.Refusals.{planRefusal}
 use Rattle.plan.specs.Update.{PlanUpdated}
 use Rattle.plan.proofs.Laws.Steps.{program-words, program-pages, step-two-most, step-two-frames-or-time, step-three-most, with-status-most, wait-bytes-le}
 use Rattle.plan.proofs.Laws.Plan.{plan-measure}
 use Rattle.plan.proofs.Laws.Refusals.{of-accepted, accepted-of, too-short-of}
 use Rattle.plan.proofs.Laws.Update.{measured-length, plan-counts}
-use Rattle.worst.specs.Worst.{worstByWords, worstByPages, withWaits, worstOf, reported}
+use Rattle.worst.specs.Worst.{worstByWords, worstByPages, worstOf, reported}
 
 -- ---- the records
 
@@ -69,7 +69,7 @@ bytes-worst s array start wanted short =
 -- so, on every chip, no plan is longer than a script can be
 worst-le : (s : State) → worstOf (dataOf s) .length ≤ 26672
 worst-le s =
-    cases (dataOf s .«word_plans») (λ w. rw (w, words-untimed (s .chip) w) (omega arith))
+    cases (dataOf s .«word_plans») (λ w. rw (w, words-at-once (s .chip) w) (omega arith))
     (λ w. let waits = wait-bytes-le (dataOf s .«status_time») in rw w (omega arith))
 
 pub plan-le : (s : State) (array : List ℕ) (start : ℕ) (wanted : List ℕ) → length wanted ≤ longestWanted
@@ -104,7 +104,7 @@ module _ (s : State) (wp : Bool) (array : List ℕ) (start : ℕ) (wanted buffer
       let short = accepted-of s array start wanted wp (length buffer) (sym (plans .number) ∙ e) .region .short in
       let needed : Bool = stepOneNeeded s array start wanted in
       let whole : reported r ≡ withStatusSteps 0 needed (measureOf (stepTwo array start wanted)) =
-      reported-is e ∙ plan-measure s array start wanted ∙ rw (program-words (dataOf s .«word_plans») array start wanted w, words-untimed (s .chip) w) refl in
+      reported-is e ∙ plan-measure s array start wanted ∙ rw (program-words (dataOf s .«word_plans») array start wanted w, words-at-once (s .chip) w) refl in
       let frames = ap (λ (m : Measure). m .frames) whole in
       let microseconds = ap (λ (m : Measure). m .microseconds) whole in
       omega (arith, words-frames-or-time array start wanted short needed)

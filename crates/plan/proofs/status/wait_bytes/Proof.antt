@@ -1,4 +1,4 @@
--- `plan::status::wait_bytes` meets its contract: two waits, or none.
+-- `plan::status::wait_bytes` meets its contract: a wait, or none.
 -- Assumes nothing.
 use mathlib.Core.Path.{refl}
 use borrow.Author.Tests.{lt-ltb, le-ltb}

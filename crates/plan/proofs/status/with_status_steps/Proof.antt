@@ -15,17 +15,20 @@ add-t6 c = search needs
 wait-bytes-requires : tie.Need-wait-bytes-requires
 wait-bytes-requires c κs = search needs
 
-add-t8 : tie.Need-add-t8
-add-t8 c = omega (arith, c .wait-bytes .ensures, wait-bytes-le (c .before .before .before .args .time), c .before .before .before .pre)
+mul-t8 : tie.Need-mul-t8
+mul-t8 c = omega (arith, c .wait-bytes .ensures, wait-bytes-le (c .before .before .before .args .time))
 
 add-t9 : tie.Need-add-t9
-add-t9 c = search needs
+add-t9 c = omega (arith, c .wait-bytes .ensures, wait-bytes-le (c .before .before .before .args .time), c .before .before .before .pre)
 
-mul-t10 : tie.Need-mul-t10
-mul-t10 c = search needs
+add-t10 : tie.Need-add-t10
+add-t10 c = search needs
 
-add-t11 : tie.Need-add-t11
-add-t11 c = search needs
+mul-t11 : tie.Need-mul-t11
+mul-t11 c = search needs
+
+add-t12 : tie.Need-add-t12
+add-t12 c = search needs
 
 returns : tie.Need-returns
 unfolding withStatusSteps
@@ -37,4 +40,5 @@ returns-2 c = no _ (c .if1 .left) refl
 
 pub with-status-steps-spec : {M : Type 1} → statement M
 with-status-steps-spec =
-    tie.close (tie.spec add-t6 wait-bytes-requires add-t8 add-t9 mul-t10 add-t11 returns returns-2)
+    tie.close
+    (tie.spec add-t6 wait-bytes-requires mul-t8 add-t9 add-t10 mul-t11 add-t12 returns returns-2)
