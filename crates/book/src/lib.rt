@@ -1,5 +1,7 @@
 // The flag book: 4,096 scenes by position in one sector, one bit each, 1 unread and 0 read. It tells which are read and plans the marking
 // of a list; it knows of the planner what `promises` says, and nothing else.
+#![tactic(auto)]
+
 pub mod marking; // the used bytes, as they are to be
 pub mod refusal; // 1, 2 and 15
 mod sizes;

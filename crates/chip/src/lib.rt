@@ -1,4 +1,6 @@
 // The chips: all that differs between them. A chip is a file with its data and its table of 256 kinds of instructions.
+#![tactic(auto)]
+
 mod f25l008a;
 mod f25l05pa;
 pub mod kinds;
@@ -6,7 +8,7 @@ pub mod kinds;
 ghost use Rattle.std.specs.Prelude.{◌≡◌};
 ghost use Rattle.chip.specs.Chip.{is_known, chip_of, kind_of};
 
-#[derive(Drop)]
+#[derive(Clone, Copy)]
 pub struct Chip {
     // bytes of the array
     pub size: u32,

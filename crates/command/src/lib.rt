@@ -1,8 +1,10 @@
 // A frame understood: what document 01's table says of it, with all that the row needs worked out.
+#![tactic(auto)]
+
 mod rows;
 pub mod understand;
 
-#[derive(Drop)]
+#[derive(Clone, Copy)]
 pub enum Command {
     Ignored,
     ReadStatus,

@@ -1,4 +1,6 @@
 // What every layer uses: bytes of a slice, read without a fault at any index, runs of them, and numbers as bytes.
+#![tactic(auto)]
+
 pub mod buffer;
 pub mod limits;
 pub mod refusals;

@@ -1,10 +1,12 @@
 // What a frame does to the array: which addresses it touches, and what becomes of each. Nothing here knows a state.
+#![tactic(auto)]
+
 pub mod change;
 
 ghost use Rattle.std.specs.Prelude.{◌≡◌, ◌<◌};
 ghost use Rattle.effect.specs.Effect.{page_effect, span_of, turn, last_for, touches, struck, mask_length};
 
-#[derive(Drop)]
+#[derive(Clone, Copy)]
 pub enum Effect {
     Keep,
     // `count` bytes from `start` become FF
@@ -16,7 +18,7 @@ pub enum Effect {
 }
 
 // The addresses lo up to hi: all touched ones are among them.
-#[derive(Drop)]
+#[derive(Clone, Copy)]
 struct Span {
     lo: usize,
     hi: usize,

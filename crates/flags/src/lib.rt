@@ -1,5 +1,7 @@
 // Flags by name: records in a sector of their own, marked one by one or moved there from a position book, and the way back. It knows of the planner
 // what `promises` says, and nothing else.
+#![tactic(auto)]
+
 ghost use Rattle.std.specs.Prelude.{◌≡◌};
 ghost use Rattle.flags.specs.Answers.{name_told, NameMarks, BookMoves, refused_return, returned_of, BookReturns};
 
@@ -14,7 +16,7 @@ use state::{Planned, State, Told};
 
 // The answer of the way back: a plan's, and how many records have a name that is not on the list; with a refusal 0.
 #[repr(C)]
-#[derive(Drop)]
+#[derive(Clone, Copy)]
 pub struct Returned {
     pub number: u32,
     pub state: State,

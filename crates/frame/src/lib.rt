@@ -1,4 +1,6 @@
 // Frames on a chip and its array: run, and interrupted by a power cut.
+#![tactic(auto)]
+
 pub mod accepted;
 pub mod call;
 mod cut;

@@ -1,4 +1,6 @@
 // The library for programs in C, C++ or Rust: include/zeradok.h declares these calls. Each is one call of the model, under a name of its own.
+#![tactic(auto)]
+
 mod reader;
 
 ghost use Rattle.std.specs.Prelude.{◌≡◌};

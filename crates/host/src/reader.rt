@@ -15,7 +15,7 @@ const END: u32 = 3;
 
 // What a kind has no use for is 0; the next offset is the given one for a refusal and the end.
 #[repr(C)]
-#[derive(Drop)]
+#[derive(Clone, Copy)]
 pub struct Record {
     pub number: u32,
     pub kind: u32,

@@ -1,4 +1,6 @@
 // What program `play` prints of a script (01): what its frames show and the status, or why it is refused and where.
+#![tactic(auto)]
+
 mod frames;
 mod refusal;
 

@@ -5,7 +5,7 @@ use super::name::same;
 use super::record::{HEAD, record_at};
 
 // Whether a record has the name; if none has, the place where the records end.
-#[derive(Drop)]
+#[derive(Clone, Copy)]
 pub struct Search {
     pub found: bool,
     pub end: usize,

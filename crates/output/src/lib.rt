@@ -1,4 +1,6 @@
 // The output: what the chip shows, byte by byte, and which of the bytes it drives.
+#![tactic(auto)]
+
 ghost use Rattle.std.specs.Prelude.{◌≡◌, ℕ, ◌<◌, ◌≤◌, length};
 ghost use Rattle.common.specs.Lists.{tab};
 ghost use Rattle.common.specs.Limits.{longest_frame};
@@ -11,7 +13,7 @@ use command::Command;
 use state::State;
 
 // What the chip does with the line for one byte. A driven FF is not a silent byte, though both read FF.
-#[derive(Drop)]
+#[derive(Clone, Copy)]
 pub enum Shown {
     Silent,
     Driven(u8),

@@ -1,4 +1,6 @@
 // Step 3: of each page that changes, the bytes from the first changing one to the last.
+#![tactic(auto)]
+
 ghost use Rattle.std.specs.Prelude.{◌≡◌, ◌+◌, ◌-◌, ◌≤◌, length};
 ghost use Rattle.script.specs.Record.{encode};
 ghost use Rattle.region.specs.Region.{Inside, wanted_at, changes};
@@ -10,7 +12,7 @@ ghost use Rattle.pages.specs.Parts.{First, Behind, PagePart, PartIn};
 use script::measure::Measure;
 
 // The addresses from one on and below another.
-#[derive(Drop)]
+#[derive(Clone, Copy)]
 pub struct Part {
     pub from: usize,
     pub to: usize,

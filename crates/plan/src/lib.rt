@@ -1,4 +1,6 @@
 // The planner: from the bytes wanted in a region of the array to the script that programs them.
+#![tactic(auto)]
+
 mod status; // steps 1 and 4
 
 ghost use Rattle.std.specs.Prelude.{◌≡◌, ◌||◌, ◌+◌, ◌≤◌, ltb, length};

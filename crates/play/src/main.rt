@@ -1,4 +1,6 @@
 // Runs a script from standard input on a new, erased F25L05PA and prints what the chip showed (01, program `play`).
+#![tactic(auto)]
+
 ghost use Rattle.std.specs.Prelude.{◌≡◌, ◌+◌, length};
 ghost use Rattle.common.specs.Limits.{longest_script};
 ghost use Rattle.listing.specs.Listing.{longest_listing};

@@ -1,4 +1,6 @@
 // The planner as the layers above see it: its call, under the statement that they may cite.
+#![tactic(auto)]
+
 ghost use Rattle.promises.specs.Promises.{Plans};
 
 use state::{Planned, State};

@@ -1,4 +1,6 @@
 // The region of an update: what is wanted at each address, and which bytes change.
+#![tactic(auto)]
+
 ghost use Rattle.std.specs.Prelude.{◌≡◌};
 ghost use Rattle.region.specs.Region.{Inside, wanted_at, changes, wants_rise};
 

@@ -1,4 +1,6 @@
 // The registers when the frame ends.
+#![tactic(auto)]
+
 ghost use Rattle.std.specs.Prelude.{◌≡◌};
 ghost use Rattle.registers.specs.Registers.{state_after};
 ghost use Rattle.command.specs.Fits.{Fits};

@@ -1,4 +1,6 @@
 // Scripts run on a chip (01, "Scripts and plans").
+#![tactic(auto)]
+
 mod records;
 
 ghost use Rattle.std.specs.Prelude.{◌≡◌, cond};
@@ -14,7 +16,7 @@ use state::State;
 // What running a script answers: number 0 with the chip's state and the counts, or the refusal's number with the given state and, where it
 // carries one, the offset of the first bad record's mark.
 #[repr(C)]
-#[derive(Drop)]
+#[derive(Clone, Copy)]
 pub struct Ran {
     pub number: u32,
     pub state: State,

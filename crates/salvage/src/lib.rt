@@ -1,4 +1,6 @@
 // A sick name sector: each whole good record is kept, and everything else is listed as dropped.
+#![tactic(auto)]
+
 mod pieces; // the walks
 mod used; // what stands before the final erased stretch
 
@@ -11,7 +13,7 @@ const SECTOR: usize = 4096;
 
 // `length` is of the list of dropped stretches, `kept` of the kept records, in bytes; both are 0 with a refusal.
 #[repr(C)]
-#[derive(Drop)]
+#[derive(Clone, Copy)]
 pub struct Salvaged {
     pub number: u32,
     pub length: u32,

@@ -1,6 +1,6 @@
 // What a script amounts to.
 
-#[derive(Drop)]
+#[derive(Clone, Copy)]
 pub struct Measure {
     // bytes
     pub length: u32,

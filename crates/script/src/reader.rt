@@ -10,7 +10,7 @@ use common::limits::{LONGEST_FRAME, LONGEST_SCRIPT};
 use common::refusals;
 
 // What the reader answers: the frame's place in the script or the wait, with the next offset; the end or a refusal, with the given one.
-#[derive(Drop)]
+#[derive(Clone, Copy)]
 pub enum Found {
     Frame {
         start: usize,

@@ -9,7 +9,7 @@ use common::refusals;
 // Number 0 and what the records count, the bytes of output among them; or the refusal's number, with the offset of the first bad record's mark
 // unless the script is too long.
 #[repr(C)]
-#[derive(Drop)]
+#[derive(Clone, Copy)]
 pub struct Surveyed {
     pub number: u32,
     pub frames: u32,

@@ -1,4 +1,6 @@
 // The chip while nothing is sent: its state, soundness, protection, power and time.
+#![tactic(auto)]
+
 pub mod power;
 pub mod protection;
 pub mod soundness;
@@ -10,7 +12,7 @@ ghost use Rattle.state.specs.Answer.{granted, refused, refused_plan};
 
 // BUSY is "left above 0" and no field.
 #[repr(C)]
-#[derive(Drop)]
+#[derive(Clone, Copy)]
 pub struct State {
     // the chip's number
     pub chip: u8,
@@ -35,7 +37,7 @@ pub struct State {
 
 // A call's answer: 0 and the new state, or the refusal's number and the given one.
 #[repr(C)]
-#[derive(Drop)]
+#[derive(Clone, Copy)]
 pub struct Answer {
     pub number: u32,
     pub state: State,
@@ -43,7 +45,7 @@ pub struct Answer {
 
 // A plan's answer: 0, the given state and what the script in the buffer amounts to; or the refusal's number, the given state and 0.
 #[repr(C)]
-#[derive(Drop)]
+#[derive(Clone, Copy)]
 pub struct Planned {
     pub number: u32,
     pub state: State,
@@ -54,7 +56,7 @@ pub struct Planned {
 
 // A question's answer: 0, the given state and 1 or 0, or how many; or the refusal's number, the given state and 0.
 #[repr(C)]
-#[derive(Drop)]
+#[derive(Clone, Copy)]
 pub struct Told {
     pub number: u32,
     pub state: State,

@@ -1,4 +1,6 @@
 // Lines of text, written into a lent buffer one behind the other. Nothing here knows a chip or a script.
+#![tactic(auto)]
+
 ghost use Rattle.std.specs.Prelude.{◌≡◌, ◌+◌, ◌≤◌, ◌<◌, length};
 ghost use Rattle.common.specs.Buffer.{Put};
 ghost use Rattle.common.specs.Lists.{Each};

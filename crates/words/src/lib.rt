@@ -1,4 +1,6 @@
 // Step 2: the words that change, in runs of neighbours.
+#![tactic(auto)]
+
 ghost use Rattle.std.specs.Prelude.{◌≡◌, true, false, ◌+◌, ◌≤◌, ◌<◌, length};
 ghost use Rattle.script.specs.Record.{encode};
 ghost use Rattle.region.specs.Region.{Inside, wanted_at, changes};

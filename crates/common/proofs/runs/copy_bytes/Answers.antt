@@ -1,0 +1,30 @@
+-- `common::runs::copy_bytes` meets its contract: below k the run is copied.
+use mathlib.Core.Path.{◌≡◌, refl}
+use Prim.Native.Nat.{◌+◌, ◌-◌, ◌≤◌}
+use native.Mathlib.Omega.{arith}
+use lib.ListN.{length, length-set}
+use Rattle.common.specs.Lists.{mapi, up_to, on_run}
+use Rattle.common.proofs.Laws.Runs.{run_start, run_turn, run_end, copied}
+use borrow.Author.Rules.{rules}
+use Rattle.common.proofs.runs.copy_bytes.Goals as goal
+
+pub loop-k-init : goal.loop-k-init
+loop-k-init c = (omega arith, omega arith, omega arith, omega arith, refl, run_start c.args.from c.args.to _ c.args.bytes.now)
+
+pub loop-k-preserved : goal.loop-k-preserved
+loop-k-preserved c =
+    let a = c.args in
+    let i = c.loop-k.invariant in (
+      omega arith,
+      omega arith,
+      i.2,
+      i.3,
+      simp length-set i.4,
+      run_turn a.from a.to _ a.bytes.now c.loop-k.bytes c.loop-k.k _ i.0 (omega arith) i.2 refl i.5,
+    )
+
+pub shape_of-bytes : goal.shape_of-bytes
+shape_of-bytes c = c.loop-k.invariant.4
+
+pub returns : goal.returns
+returns c = let a = c.args in run_end a.from a.to _ a.bytes.now c.loop-k.bytes c.loop-k.k (omega arith) c.loop-k.invariant.5

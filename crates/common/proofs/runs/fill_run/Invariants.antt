@@ -1,0 +1,16 @@
+-- `common::runs::fill_run` meets its contract: below k the run is filled.
+use mathlib.Core.Path.{◌≡◌, refl}
+use Prim.Native.Nat.{◌-◌, ◌≤◌}
+use native.Mathlib.Omega.{arith}
+use lib.ListN.{length, length-set}
+use Rattle.common.specs.Lists.{mapi, up_to, on_run}
+use Rattle.common.proofs.Laws.Runs.{run_start, run_turn, run_end}
+use borrow.Author.Rules.{rules}
+use Rattle.common.proofs.runs.fill_run.Given as goal
+
+abbrev pub invariant-loop-k : goal.invariant-loop-k
+invariant-loop-k l =
+    (l.from ≤ l.k) × (l.k ≤ l.to) × (l.to ≤ length l.initial.bytes) × (length l.bytes ≡ length l.initial.bytes) × (l.bytes ≡ mapi (up_to l.k (on_run l.from l.to (λ k x. l.value))) l.initial.bytes)
+
+abbrev pub decreases-loop-k : goal.decreases-loop-k
+decreases-loop-k l = l.to - l.k

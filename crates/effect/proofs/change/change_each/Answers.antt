@@ -1,0 +1,48 @@
+-- `effect::change::change_each` meets its contract: below k the array is changed, from k on it is as it was.
+use mathlib.Core.Path.{◌≡◌, refl, ap}
+use Prim.Native.Nat.{ℕ, ◌-◌, ◌<◌, ◌≤◌}
+use native.Mathlib.Omega.{arith}
+use lib.ListN.{length, length-set}
+use borrow.Author.Rules.{rules}
+use Rattle.common.specs.Lists.{mapi, up_to}
+use Rattle.common.proofs.Laws.Lists.{loop_start, loop_turn, loop_end}
+use Rattle.effect.specs.declared.Span.{Span}
+use Rattle.effect.specs.Effect.{span_of, changed}
+use Rattle.effect.proofs.Laws.Effect.{changed_below, changed_above}
+use Rattle.effect.proofs.change.change_each.Goals as goal
+
+abbrev new : tie.Start invariant-loop decreases-loop → ℕ → ℕ → ℕ
+new c = changed c.args.e c.args.input.now
+
+pub loop-k-init : goal.loop-k-init
+loop-k-init c =
+    let l = ap (λ (s : Span). s.lo) c.span_of-span.ensures in
+    let h = ap (λ (s : Span). s.hi) c.span_of-span.ensures in (
+      omega arith,
+      omega arith,
+      h,
+      omega arith,
+      c.requires.2,
+      refl,
+      loop_start (new (goal.at.loop-k-init c).Start) c.args.array.now _ (λ k x b. changed_below c.args.e c.args.input.now k x (omega arith)),
+    )
+
+pub loop-k-preserved : goal.loop-k-preserved
+loop-k-preserved c =
+    let i = c.loop-k.invariant in (
+      omega arith,
+      omega arith,
+      i.2,
+      i.3,
+      i.4,
+      simp length-set i.5,
+      rw c.changed_byte.ensures (loop_turn (new (goal.at.loop-k-preserved c).Start) c.args.array.now c.loop-k.array c.loop-k.k (omega arith) i.6),
+    )
+
+pub shape_of-array : goal.shape_of-array
+shape_of-array c = c.loop-k.invariant.5
+
+pub returns : goal.returns
+returns c =
+    loop_end (new (goal.at.returns c).Start) c.args.array.now c.loop-k.array c.loop-k.k
+    (λ k x b. changed_above c.args.e c.args.input.now k x (omega arith)) c.loop-k.invariant.6

@@ -1,0 +1,75 @@
+-- `listing::frames::put_frame_lines` meets its contract: the lines of the records before `at` are written, and with those that are left the text will be as it is to be.
+use mathlib.Core.List.{List, [], ◌∷◌}
+use Prim.Native.Nat.{ℕ, ◌-◌}
+use native.Mathlib.Omega.{arith}
+use types.Run.{OneOf, miss}
+use denote.Enum.Declared.{tag_of}
+use lib.ListN.{length}
+use Rattle.script.specs.contracts.reader.Found.{the_type}
+use Rattle.script.specs.declared.reader.Found.{Found}
+use Rattle.script.specs.declared.reader.Found.TheVariants.{Frame, Wait, End, Refused}
+use Rattle.script.specs.Record.{wait}
+use Rattle.frame.specs.Line.{on_line}
+use Rattle.script.proofs.Laws.Answers.{good_not_refused, Stands, FrameTold, EndTold, Told, front_told}
+use Rattle.listing.proofs.Laws.Frames.{Shown, show_start, frame_inside, frame_driven_inside, frame_room, show_frame, show_wait, show_end}
+use borrow.Author.Rules.{rules}
+use Rattle.listing.proofs.frames.put_frame_lines.Goals as goal
+
+abbrev Script : tie.At-loop invariant-loop decreases-loop → List ℕ
+Script l = l.before.before.before.before.before.args.script.now
+
+-- what the answers tell
+told : (c : goal.After-front_at-found ) → Told (Script c) c.loop-length.at c.front_at-found.result
+told c = front_told (Script c) c.loop-length.at c.front_at-found.result c.front_at-found.ensures
+
+framed : (c : goal.In-Frame )
+    → FrameTold (Script c) c.loop-length.at c.in-Frame.start c.in-Frame.length c.in-Frame.next
+framed c = rw c.in-Frame.is at (told c)
+
+waited : (c : goal.In-Wait )
+    → Stands (Script c) c.loop-length.at (wait c.in-Wait.microseconds) c.in-Wait.next
+waited c = rw c.in-Wait.is at (told c)
+
+-- there is no other answer than the end
+ended : (c : goal.In_default ) (found : Found) → OneOf (2 ∷ 3 ∷ []) (tag_of the_type found)
+    → Told (Script c) c.loop-length.at found → EndTold (Script c) c.loop-length.at
+ended c (Frame start n next) h t = absurd (miss (2 ∷ 3 ∷ []) 0 tt h)
+ended c (Wait microseconds next) h t = absurd (miss (2 ∷ 3 ∷ []) 1 tt h)
+ended c (End next) h t = t.1
+ended c (Refused number next) h t = absurd (good_not_refused c.loop-length.invariant.decoded t.1)
+
+pub loop-length-init : goal.loop-length-init
+loop-length-init c = show_start _ _ _ c.requires.0 c.requires.1.0 c.requires.1.1
+
+pub overflow_add-end : goal.overflow_add-end
+overflow_add-end c = let h = frame_inside c.loop-length.invariant (framed c) in search rules
+
+pub slice_bounds-put_shown_line-end : goal.slice_bounds-put_shown_line-end
+slice_bounds-put_shown_line-end c = frame_inside c.loop-length.invariant (framed c)
+
+pub slice_bounds-put_shown_line-end-in-Frame : goal.slice_bounds-put_shown_line-end-in-Frame
+slice_bounds-put_shown_line-end-in-Frame c = frame_driven_inside c.loop-length.invariant (framed (goal.at.slice_bounds-put_shown_line-end-in-Frame c).In-Frame)
+
+pub put_shown_line-next_line-requires : goal.put_shown_line-next_line-requires
+put_shown_line-next_line-requires c = frame_room c.loop-length.invariant (framed (goal.at.put_shown_line-next_line-requires c).In-Frame)
+
+pub loop-length-smaller-in-Frame : goal.loop-length-smaller-in-Frame
+loop-length-smaller-in-Frame c = let s = (framed (goal.at.loop-length-smaller-in-Frame c).In-Frame).stands in omega (arith, s.next_is, s.least, s.inside)
+
+pub loop-length-preserved-in-Frame : goal.loop-length-preserved-in-Frame
+loop-length-preserved-in-Frame c =
+    let t = framed (goal.at.loop-length-preserved-in-Frame c).In-Frame in
+    show_frame c.loop-length.invariant t c.put_shown_line-next_line.ensures
+
+pub loop-length-smaller : goal.loop-length-smaller
+loop-length-smaller c = let s = waited c in omega (arith, s.next_is, s.inside)
+
+pub loop-length-preserved : goal.loop-length-preserved
+loop-length-preserved c = show_wait c.loop-length.invariant (waited c)
+
+pub shape_of-text-in_default : goal.shape_of-text-in_default
+shape_of-text-in_default c = c.loop-length.invariant.lays.long
+
+pub returns-in_default : goal.returns-in_default
+returns-in_default c =
+    show_end c.loop-length.invariant (ended c c.front_at-found.result c.in_default.keys3 (told (goal.at.returns-in_default c).After-front_at-found))

@@ -1,0 +1,25 @@
+-- `listing::refusal::put_refusal` meets its contract: the line is the one that the number asks for.
+use mathlib.Core.Path.{sym, ◌∙◌}
+use mathlib.Core.List.{[], ◌∷◌}
+use native.Mathlib.Omega.{arith}
+use Rattle.text.proofs.Laws.Decimal.{decimals_line_short}
+use borrow.Author.Rules.{rules}
+use Rattle.listing.proofs.refusal.put_refusal.Goals as goal
+
+pub put_decimals_line-requires : goal.put_decimals_line-requires
+put_decimals_line-requires c =
+    ((omega (arith, c.requires.0), (omega (arith, c.requires.1.0), tt)), omega (arith, c.requires.1.1, decimals_line_short 0x52 (c.args.number ∷ c.args.offset ∷ [])))
+
+pub returns-then-carries_offset : goal.returns-then-carries_offset
+returns-then-carries_offset c =
+    let t = sym c.carries_offset.ensures ∙ c.if-carries_offset.true in
+    rw t c.put_decimals_line.ensures
+
+pub put_decimals_line-requires-2 : goal.put_decimals_line-requires-2
+put_decimals_line-requires-2 c =
+    ((omega (arith, c.requires.0), tt), omega (arith, c.requires.1.1, decimals_line_short 0x52 (c.args.number ∷ [])))
+
+pub returns : goal.returns
+returns c =
+    let t = sym c.carries_offset.ensures ∙ c.if-carries_offset.false in
+    rw t c.put_decimals_line-2.ensures

@@ -1,0 +1,14 @@
+-- `namelist::twice::has_print` meets its contract: the print is found among those passed, or the answer is that of those left.
+use mathlib.Core.Path.{refl}
+use Prim.Native.Nat.{◌-◌}
+use native.Mathlib.Omega.{arith}
+use lib.ListN.{length}
+use borrow.Author.Rules.{rules}
+use Rattle.namelist.proofs.Laws.Prints.{Sought, sought_turn, sought_end}
+use Rattle.namelist.proofs.twice.has_print.Given as goal
+
+abbrev pub invariant-loop-i : goal.invariant-loop-i
+invariant-loop-i l = Sought l.prints l.print l.found l.i
+
+abbrev pub decreases-loop-i : goal.decreases-loop-i
+decreases-loop-i l = length l.prints - l.i

@@ -1,0 +1,19 @@
+-- `output::changing` meets its contract: by turns to the end, else from byte 4 on the same, or from the start.
+use mathlib.Core.List.{[], ◌∷◌}
+use native.Mathlib.Omega.{arith}
+use types.Run.{miss}
+use Rattle.output.proofs.Laws.Settled.{same_from_start, same_from_four, same_from_end}
+use borrow.Author.Rules.{rules}
+use Rattle.output.proofs.changing.Goals as goal
+
+pub returns-in-ReadIdentity : goal.returns-in-ReadIdentity
+returns-in-ReadIdentity c = let a = c.args in (omega arith, same_from_end a.c a.count)
+
+pub returns-in-ReadStatus : goal.returns-in-ReadStatus
+returns-in-ReadStatus c =
+    let told = c.in-ReadStatus.keys2 in
+    let same = same_from_four c.args.c c.requires (λ odd e. miss (1 ∷ 3 ∷ 4 ∷ []) 5 tt (rw e at told)) c.args.count in
+    (omega arith, rw c.smaller.ensures same)
+
+pub returns-in_default : goal.returns-in_default
+returns-in_default c = (omega arith, same_from_start c.args.c c.args.count c.requires c.in_default.keys3)

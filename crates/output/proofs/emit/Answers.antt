@@ -1,0 +1,37 @@
+-- `output::emit` meets its contract: a read of the array in runs, every other command byte by byte until it no longer changes.
+use mathlib.Core.List.{List, [], ◌∷◌}
+use Prim.Native.Nat.{ℕ, ◌+◌, ◌-◌, ◌%◌}
+use native.Mathlib.Omega.{arith}
+use types.Run.{miss}
+use Rattle.chip.proofs.Laws.Chip.{regular}
+use Rattle.state.specs.State.{data_of}
+use Rattle.output.specs.Output.{memory, shown_at}
+use borrow.Author.Rules.{rules}
+use Rattle.output.proofs.emit.Goals as goal
+
+-- the variants of the last arm
+abbrev others : List ℕ
+others = 0 ∷ 1 ∷ 3 ∷ 4 ∷ 5 ∷ 6 ∷ 7 ∷ 8 ∷ 9 ∷ 10 ∷ 11 ∷ 12 ∷ 13 ∷ 14 ∷ []
+
+pub show_array-requires : goal.show_array-requires
+show_array-requires c =
+    let below = rw c.in-ReadArray.is at c.requires.0 in
+    let k = regular c.args.s.chip in
+    (omega (arith, below, c.requires.1), omega (arith, k.size_positive, k.whole_blocks, c.requires.1, c.requires.2))
+
+pub show_each-requires : goal.show_each-requires
+show_each-requires c =
+    let told = c.in_default.keys2 in
+    (λ address silent e. miss others 2 tt (rw e at told), c.requires.3)
+
+pub returns-in-ReadArray : goal.returns-in-ReadArray
+unfolding shown_at
+returns-in-ReadArray c =
+    let a = c.args in
+    let read = c.c-1.given in
+    let shown = rw c.requires.1 at c.show_array.ensures in
+    let byte : ℕ → ℕ = λ i. memory a.array.now ((read.0.0 + (i - read.0.1.0)) % (data_of a.s).size) in
+    rw read.1 (shown, rw c.requires.3 at (c.drive_since.ensures byte))
+
+pub returns-in_default : goal.returns-in_default
+returns-in_default c = c.show_each.ensures (memory c.args.array.now)

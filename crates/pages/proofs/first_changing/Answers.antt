@@ -1,0 +1,40 @@
+-- `pages::first_changing` meets its contract: nothing changes at the addresses passed.
+use mathlib.Core.Path.{◌≡◌, sym, ◌∙◌}
+use mathlib.Core.Bool.{false}
+use Prim.Native.Nat.{ℕ, ◌-◌, ◌≤◌, ◌<◌}
+use native.Mathlib.Omega.{arith}
+use borrow.Author.Rules.{rules}
+use Rattle.region.specs.Region.{changes}
+use Rattle.pages.proofs.Laws.Spans.{below_more}
+use Rattle.pages.proofs.first_changing.Goals as goal
+
+pub loop-address-init : goal.loop-address-init
+loop-address-init c = (omega arith, omega arith, λ k h l. absurd (omega arith))
+
+pub returns-then-changes : goal.returns-then-changes
+returns-then-changes c =
+    record {
+      low = omega arith;
+      high = omega arith;
+      before = c.loop-address.invariant.2;
+      here = λ _. sym c.changes.ensures ∙ c.if-changes.true;
+    }
+
+pub overflow_add-address : goal.overflow_add-address
+overflow_add-address c = omega arith
+
+pub loop-address-smaller : goal.loop-address-smaller
+loop-address-smaller c = omega arith
+
+pub loop-address-preserved : goal.loop-address-preserved
+loop-address-preserved c =
+    (omega arith, omega arith, below_more _ _ _ c.loop-address.invariant.2 (sym c.changes.ensures ∙ c.if-changes.false))
+
+pub returns : goal.returns
+returns c =
+    record {
+      low = omega arith;
+      high = omega arith;
+      before = c.loop-address.invariant.2;
+      here = λ l. absurd (omega arith);
+    }

@@ -1,0 +1,15 @@
+-- `pages::first_changing` meets its contract: nothing changes at the addresses passed.
+use mathlib.Core.Path.{◌≡◌, sym, ◌∙◌}
+use mathlib.Core.Bool.{false}
+use Prim.Native.Nat.{ℕ, ◌-◌, ◌≤◌, ◌<◌}
+use native.Mathlib.Omega.{arith}
+use borrow.Author.Rules.{rules}
+use Rattle.region.specs.Region.{changes}
+use Rattle.pages.proofs.Laws.Spans.{below_more}
+use Rattle.pages.proofs.first_changing.Given as goal
+
+abbrev pub invariant-loop-address : goal.invariant-loop-address
+invariant-loop-address l = (l.from ≤ l.address) × (l.address ≤ l.to) × ((k : ℕ) → l.from ≤ k → k < l.address → changes l.array l.start l.wanted k ≡ false)
+
+abbrev pub decreases-loop-address : goal.decreases-loop-address
+decreases-loop-address l = l.to - l.address

@@ -1,0 +1,14 @@
+-- `pages::page_part` meets its contract: outside the region nothing of the page changes.
+use native.Mathlib.Omega.{arith}
+use borrow.Author.Rules.{rules}
+use Rattle.region.proofs.Laws.Region.{changes_before, changes_behind}
+use Rattle.pages.proofs.Laws.Parts.{page_part}
+use Rattle.pages.proofs.page_part.Goals as goal
+
+pub returns : goal.returns
+returns c =
+    let a = c.args in
+    page_part _ a.start a.wanted.now a.page c.larger-from.result c.smaller-to.result c.first_changing-first.result c.behind_last-behind.result
+    (omega arith) (omega arith) (omega arith) (omega arith)
+    (λ k i l. changes_before _ _ _ k (omega arith)) (λ k i l. changes_behind _ _ _ k (omega arith))
+    c.first_changing-first.ensures c.behind_last-behind.ensures

@@ -1,0 +1,98 @@
+-- `run::records::run_records` meets its contract: at the loop's head the records before `at` are run, and running those that are left makes up the whole.
+-- The measure is what is left of the script. Assumes nothing.
+use mathlib.Core.Path.{◌≡◌, sym, ◌∙◌}
+use mathlib.Core.List.{List, [], ◌∷◌}
+use Prim.Native.Nat.{ℕ, ◌-◌}
+use native.Mathlib.Omega.{arith}
+use types.Run.{OneOf, miss}
+use denote.Enum.Declared.{tag_of}
+use lib.ListN.{length}
+use Rattle.script.specs.contracts.reader.Found.{the_type}
+use Rattle.script.specs.declared.reader.Found.{Found}
+use Rattle.script.specs.declared.reader.Found.TheVariants.{Frame, Wait, End, Refused}
+use Rattle.script.specs.Record.{wait}
+use Rattle.common.proofs.Laws.Bits.{bytes_within}
+use Rattle.script.proofs.Laws.Answers.{good_not_refused, Stands, FrameTold, EndTold, Told, front_told}
+use Rattle.frame.specs.Device.{device}
+use Rattle.frame.specs.Line.{on_line}
+use Rattle.run.proofs.Laws.Walk.{Walked, walk_start, frame_room, frame_driven_room, walk_accepted, walk_frame, walk_wait, walk_end}
+use borrow.Author.Rules.{rules}
+use Rattle.run.proofs.records.run_records.Goals as goal
+
+abbrev Script : tie.At-loop invariant-loop decreases-loop → List ℕ
+Script l = l.before.before.before.before.before.args.script.now
+
+-- what the answers tell
+told : (c : goal.After-front_at-found ) → Told (Script c) c.loop-start.at c.front_at-found.result
+told c = front_told (Script c) c.loop-start.at c.front_at-found.result c.front_at-found.ensures
+
+framed : (c : goal.In-Frame )
+    → FrameTold (Script c) c.loop-start.at
+    c.in-Frame.start c.in-Frame.length c.in-Frame.next
+framed c = rw c.in-Frame.is at (told c)
+
+waited : (c : goal.In-Wait )
+    → Stands (Script c) c.loop-start.at
+    (wait c.in-Wait.microseconds) c.in-Wait.next
+waited c = rw c.in-Wait.is at (told c)
+
+-- there is no other answer than the end
+ended : (c : goal.In_default ) (found : Found) → OneOf (2 ∷ 3 ∷ []) (tag_of the_type found)
+    → Told (Script c) c.loop-start.at found → EndTold (Script c) c.loop-start.at
+ended c (Frame start n next) h t = absurd (miss (2 ∷ 3 ∷ []) 0 tt h)
+ended c (Wait microseconds next) h t = absurd (miss (2 ∷ 3 ∷ []) 1 tt h)
+ended c (End next) h t = t.1
+ended c (Refused number next) h t =
+    absurd (good_not_refused c.loop-start.invariant.1.decoded t.1)
+
+pub loop-start-init : goal.loop-start-init
+loop-start-init c =
+    let a = c.args in
+    let bytes = bytes_within a.script.now (λ k b. omega (arith, c.shared_slice_known-1.given k)) in (
+      c.requires.same.driven_long ∙ sym c.requires.same.output_long,
+      walk_start a.wp a.script.now (device a.s a.array.now) (on_line a.output.now a.driven.now) bytes c.requires,
+    )
+
+pub part_at-input-requires : goal.part_at-input-requires
+part_at-input-requires c = let t = framed c in omega (arith, t.start_is, t.long, t.stands.next_is, t.stands.inside)
+
+pub overflow_add-end : goal.overflow_add-end
+overflow_add-end c = let h = frame_room c.loop-start.invariant.1 (framed (goal.at.overflow_add-end c).In-Frame) in search rules
+
+pub slice_bounds-run_accepted-end : goal.slice_bounds-run_accepted-end
+slice_bounds-run_accepted-end c = frame_room c.loop-start.invariant.1 (framed (goal.at.slice_bounds-run_accepted-end c).In-Frame)
+
+pub slice_bounds-run_accepted-end-in-Frame : goal.slice_bounds-run_accepted-end-in-Frame
+slice_bounds-run_accepted-end-in-Frame c = frame_driven_room c.loop-start.invariant.1 (framed (goal.at.slice_bounds-run_accepted-end-in-Frame c).In-Frame)
+
+pub run_accepted-state-requires : goal.run_accepted-state-requires
+run_accepted-state-requires c = walk_accepted c.loop-start.invariant.1 (framed (goal.at.run_accepted-state-requires c).In-Frame) c.part_at-input.ensures
+
+pub loop-start-smaller-in-Frame : goal.loop-start-smaller-in-Frame
+loop-start-smaller-in-Frame c = let s = (framed (goal.at.loop-start-smaller-in-Frame c).In-Frame).stands in omega (arith, s.next_is, s.least, s.inside)
+
+pub loop-start-preserved-in-Frame : goal.loop-start-preserved-in-Frame
+loop-start-preserved-in-Frame c =
+    let told = c.loop-start.invariant in
+    (told.0, walk_frame told.1 (framed (goal.at.loop-start-preserved-in-Frame c).In-Frame) c.part_at-input.ensures c.run_accepted-state.ensures)
+
+pub loop-start-smaller : goal.loop-start-smaller
+loop-start-smaller c = let s = waited (goal.at.loop-start-smaller c).In-Wait in omega (arith, s.next_is, s.inside)
+
+pub loop-start-preserved : goal.loop-start-preserved
+loop-start-preserved c = let told = c.loop-start.invariant in (told.0, walk_wait told.1 (waited (goal.at.loop-start-preserved c).In-Wait) c.time_passed-state.ensures)
+
+pub shape_of-array-in_default : goal.shape_of-array-in_default
+shape_of-array-in_default c = c.loop-start.invariant.1.sized
+
+pub shape_of-output-in_default : goal.shape_of-output-in_default
+shape_of-output-in_default c = c.loop-start.invariant.1.long.output_long
+
+pub shape_of-driven-in_default : goal.shape_of-driven-in_default
+shape_of-driven-in_default c = let told = c.loop-start.invariant in told.1.long.driven_long ∙ sym told.0
+
+pub returns-in_default : goal.returns-in_default
+returns-in_default c =
+    let t = ended c c.front_at-found.result c.in_default.keys3 (told (goal.at.returns-in_default c).After-front_at-found) in
+    let e = walk_end c.loop-start.invariant.1 t in
+    record { device_is = e.0; line_is = e.1 }

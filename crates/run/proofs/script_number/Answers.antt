@@ -1,0 +1,54 @@
+-- `run::script_number` meets its contract: each test is its refusal's condition, in the order of the list; behind 1 and 2 the survey tells them.
+use mathlib.Core.Path.{◌≡◌, refl, sym, ap, ◌∙◌}
+use mathlib.Core.Bool.{false, not}
+use lib.Dec.{eqb}
+use lib.ListN.{length}
+use borrow.Author.Tests.{eq-eqb, ne_eqb}
+use Rattle.common.proofs.Laws.Choice.{yes, no}
+use Rattle.state.specs.State.{data_of}
+use Rattle.state.specs.Soundness.{is_sound}
+use Rattle.script.specs.declared.survey.Surveyed.{Surveyed}
+use Rattle.script.specs.Survey.{survey_of}
+use Rattle.run.proofs.Laws.Accepted.{number_surveyed}
+use borrow.Author.Rules.{rules}
+use Rattle.run.proofs.script_number.Goals as goal
+
+-- 1 and 2 are passed
+sound : (c : goal.Else-not-is_sound) → not (is_sound c.args.s) ≡ false
+sound c = rw c.is_sound.ensures at c.if-not-is_sound.false
+
+sized : (c : goal.Else-array-chip_of)
+    → let a = c.args in not (eqb (length a.array.now) (data_of a.s).size) ≡ false
+sized c = ap not (eq-eqb _ _ (rw c.chip_of.ensures at c.if-array-chip_of.false))
+
+pub returns-then-not-is_sound : goal.returns-then-not-is_sound
+returns-then-not-is_sound c = yes _ (rw c.is_sound.ensures at c.if-not-is_sound.true) refl ∙ sym (number_surveyed _ _ _ _)
+
+pub returns-then-array-chip_of : goal.returns-then-array-chip_of
+returns-then-array-chip_of c =
+    no _ (sound (goal.at.returns-then-array-chip_of c).Else-not-is_sound) (yes _ (ap not (rw c.chip_of.ensures at (ne_eqb _ _ c.if-array-chip_of.true))) refl)
+    ∙ sym (number_surveyed _ _ _ _)
+
+pub returns-then-survey-ne0 : goal.returns-then-survey-ne0
+returns-then-survey-ne0 c =
+    ap (λ (v : Surveyed). v.number) c.requires
+    ∙ no _ (sound (goal.at.returns-then-survey-ne0 c).Else-not-is_sound) (no _ (sized (goal.at.returns-then-survey-ne0 c).Else-array-chip_of) (yes _ (ap not (ne_eqb _ 0 (rw c.requires at c.if-survey-ne0.true))) refl))
+    ∙ sym (number_surveyed _ _ _ _)
+
+-- the script's own refusals are passed
+surveyed : (c : goal.Else-survey-ne0)
+    → let a = c.args in not (eqb (survey_of a.script.now).number 0) ≡ false
+surveyed c =
+    ap not (eq-eqb _ 0 (rw c.requires at c.if-survey-ne0.false))
+
+pub returns-then-output-survey : goal.returns-then-output-survey
+returns-then-output-survey c =
+    no _ (sound (goal.at.returns-then-output-survey c).Else-not-is_sound)
+    (no _ (sized (goal.at.returns-then-output-survey c).Else-array-chip_of) (no _ (surveyed (goal.at.returns-then-output-survey c).Else-survey-ne0) (yes _ (rw c.requires at c.if-output-survey.true) refl)))
+    ∙ sym (number_surveyed _ _ _ _)
+
+pub returns : goal.returns
+returns c =
+    no _ (sound (goal.at.returns c).Else-not-is_sound)
+    (no _ (sized (goal.at.returns c).Else-array-chip_of) (no _ (surveyed (goal.at.returns c).Else-survey-ne0) (no _ (rw c.requires at c.if-output-survey.false) refl)))
+    ∙ sym (number_surveyed _ _ _ _)

@@ -1,0 +1,72 @@
+-- `salvage::pieces::put_pieces` meets its contract: what is left of the records and of the list goes behind what is laid.
+use mathlib.Core.Path.{◌≡◌, sym, ◌∙◌}
+use Prim.Native.Nat.{◌+◌, ◌-◌}
+use native.Mathlib.Omega.{arith}
+use lib.ListN.{length}
+use borrow.Author.Rules.{rules}
+use Rattle.names.proofs.Laws.Front.{none_exactly}
+use Rattle.salvage.proofs.Laws.Walk.{KeptAt, kept_at, Laying, laying_start, entry_room, laying_stretch, record_room, laying_kept, laying_end}
+use Rattle.salvage.proofs.pieces.put_pieces.Goals as goal
+
+-- the record that is kept
+kept_here : (c : goal.Else-record-eq0 )
+    → KeptAt c.args.bytes.now c.loop-at.at c.record_at-record.result
+kept_here c = kept_at _ _ _ c.record_at-record.ensures c.if-record-eq0.false
+
+pub loop-at-init : goal.loop-at-init
+loop-at-init c = laying_start _ _ _ c.requires.0.1 c.requires.1
+
+pub record_at-record-requires : goal.record_at-record-requires
+record_at-record-requires c = c.loop-at.invariant.inside
+
+pub stretch_end-end-requires : goal.stretch_end-end-requires
+stretch_end-end-requires c = (c.loop-at-test.true, (none_exactly _).when (sym c.record_at-record.ensures ∙ c.if-record-eq0.true))
+
+pub overflow_sub-end : goal.overflow_sub-end
+overflow_sub-end c = omega (arith, c.stretch_end-end.ensures.onward)
+
+pub put_stretch-listed-requires : goal.put_stretch-listed-requires
+put_stretch-listed-requires c =
+    let s = c.stretch_end-end.ensures in
+    let b = c.requires.0.0 in
+    (omega (arith, s.onward, s.inside, b), omega (arith, s.inside, b), entry_room _ _ _ _ _ _ _ _ _ s c.loop-at.invariant)
+
+pub loop-at-smaller-then-record-eq0 : goal.loop-at-smaller-then-record-eq0
+loop-at-smaller-then-record-eq0 c = let s = c.stretch_end-end.ensures in omega (arith, s.onward, s.inside)
+
+pub loop-at-preserved-then-record-eq0 : goal.loop-at-preserved-then-record-eq0
+loop-at-preserved-then-record-eq0 c =
+    laying_stretch _ _ _ _ _ _ _ _ _ c.stretch_end-end.ensures
+    c.loop-at.invariant _ _ c.put_stretch-listed.ensures
+
+pub overflow_add-end : goal.overflow_add-end
+overflow_add-end c = omega (arith, (kept_here c).inside)
+
+pub slice_bounds-put-end : goal.slice_bounds-put-end
+slice_bounds-put-end c = omega (arith, (kept_here c).inside)
+
+pub put-size-requires : goal.put-size-requires
+put-size-requires c =
+    let l = c.loop-at in
+    let n = c.record_at-record.result in
+    let same : l.at + n - l.at ≡ n = omega arith in
+    rw same (record_room _ _ _ _ _ _ _ _ n (kept_here (goal.at.put-size-requires c).Else-record-eq0) l.invariant)
+
+pub loop-at-smaller : goal.loop-at-smaller
+loop-at-smaller c = let r = kept_here (goal.at.loop-at-smaller c).Else-record-eq0 in omega (arith, r.some, r.inside)
+
+pub loop-at-preserved : goal.loop-at-preserved
+loop-at-preserved c =
+    let l = c.loop-at in
+    let n = c.record_at-record.result in
+    let same : l.at + n - l.at ≡ n = omega arith in
+    laying_kept _ _ _ _ _ _ _ _ n (kept_here (goal.at.loop-at-preserved c).Else-record-eq0) l.invariant _ _ (rw same at c.put-size.ensures)
+
+pub shape_of-kept : goal.shape_of-kept
+shape_of-kept c = c.loop-at.invariant.records.long
+
+pub shape_of-list : goal.shape_of-list
+shape_of-list c = c.loop-at.invariant.entries.long
+
+pub returns : goal.returns
+returns c = laying_end _ _ _ _ _ _ _ _ c.loop-at-test.false c.loop-at.invariant

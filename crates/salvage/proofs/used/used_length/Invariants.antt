@@ -1,0 +1,11 @@
+-- `salvage::used::used_length` meets its contract: FF from `used` on.
+use native.Mathlib.Omega.{arith}
+use borrow.Author.Rules.{rules}
+use Rattle.salvage.proofs.Laws.Used.{ErasedFrom, erased_start, erased_turn, erased_found, erased_all}
+use Rattle.salvage.proofs.used.used_length.Given as goal
+
+abbrev pub invariant-loop-used : goal.invariant-loop-used
+invariant-loop-used l = ErasedFrom l.sector l.used
+
+abbrev pub decreases-loop-used : goal.decreases-loop-used
+decreases-loop-used l = l.used

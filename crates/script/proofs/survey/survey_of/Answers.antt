@@ -1,0 +1,61 @@
+-- `script::survey::survey_of` meets its contract. At the loop's head the records before `at` are counted, and the survey of what is left makes up the whole.
+-- The measure is what is left of the script. Assumes nothing.
+use mathlib.Core.Path.{sym, ◌∙◌}
+use mathlib.Core.List.{List}
+use Prim.Native.Nat.{ℕ, ◌-◌}
+use native.Mathlib.Omega.{arith}
+use borrow.Author.Rules.{rules}
+use lib.ListN.{length}
+use Rattle.script.specs.Record.{wait}
+use Rattle.script.proofs.Laws.Answers.{Stands, FrameTold, Told, front_told}
+use Rattle.script.proofs.Laws.Survey.{survey_long, Counted, count_start, count_frame, count_wait, count_end, count_refused}
+use Rattle.script.proofs.survey.survey_of.Goals as goal
+
+abbrev Script : tie.At-loop invariant-loop decreases-loop → List ℕ
+Script l = l.before.before.before.args.script.now
+
+-- what the answers tell
+told : (c : goal.After-front_at-found ) → Told (Script c) c.loop-length.at c.front_at-found.result
+told c = front_told (Script c) c.loop-length.at c.front_at-found.result c.front_at-found.ensures
+
+framed : (c : goal.In-Frame )
+    → FrameTold (Script c) c.loop-length.at
+    c.in-Frame.start c.in-Frame.length c.in-Frame.next
+framed c = rw c.in-Frame.is at (told c)
+
+waited : (c : goal.In-Wait )
+    → Stands (Script c) c.loop-length.at
+    (wait c.in-Wait.waited) c.in-Wait.next
+waited c = rw c.in-Wait.is at (told c)
+
+pub returns-then-script-gt-LONGEST_SCRIPT : goal.returns-then-script-gt-LONGEST_SCRIPT
+returns-then-script-gt-LONGEST_SCRIPT c = c.refused_survey.ensures ∙ sym (survey_long _ c.if-script-gt-LONGEST_SCRIPT.true)
+
+pub loop-length-init : goal.loop-length-init
+loop-length-init c = count_start _ c.if-script-gt-LONGEST_SCRIPT.false
+
+pub overflow_add-output : goal.overflow_add-output
+overflow_add-output c = let t = framed c in omega (arith, t.long, t.stands.next_is, t.stands.inside)
+
+pub loop-length-smaller-in-Frame : goal.loop-length-smaller-in-Frame
+loop-length-smaller-in-Frame c = let s = (framed c).stands in omega (arith, s.next_is, s.least, s.inside)
+
+pub loop-length-preserved-in-Frame : goal.loop-length-preserved-in-Frame
+loop-length-preserved-in-Frame c = count_frame (framed c) c.loop-length.invariant
+
+pub loop-length-smaller : goal.loop-length-smaller
+loop-length-smaller c = let s = waited c in omega (arith, s.next_is, s.inside)
+
+pub loop-length-preserved : goal.loop-length-preserved
+loop-length-preserved c = count_wait (omega arith) (waited c) c.loop-length.invariant
+
+pub returns-in-End : goal.returns-in-End
+returns-in-End c =
+    let t = rw c.in-End.is at (told (goal.at.returns-in-End c).After-front_at-found) in
+    c.counted_survey.ensures ∙ count_end t.1 c.loop-length.invariant
+
+pub returns-in-Refused : goal.returns-in-Refused
+returns-in-Refused c =
+    let k = c.loop-length.invariant in
+    let t = rw c.in-Refused.is at (told (goal.at.returns-in-Refused c).After-front_at-found) in
+    c.refused_survey-in-Refused.ensures ∙ rw t.0 (count_refused t.1 k)

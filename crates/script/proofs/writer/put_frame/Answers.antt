@@ -1,0 +1,22 @@
+-- `script::writer::put_frame` meets its contract: its bytes are the head and the frame, one behind the other.
+use lib.ListN.{length}
+use borrow.Author.Rules.{rules}
+use Rattle.script.specs.Record.{frame, encode_record, frame_head}
+use Rattle.common.proofs.Laws.Buffer.{Whole, left_start, left_room, left_turn, left_fits, left_last}
+use Rattle.script.proofs.writer.put_frame.Goals as goal
+
+-- all of it is left before the first call
+begun : (c : goal.Start) → Whole c.args.at (encode_record (frame c.args.bytes.now)) c.args.buffer.now
+begun c = left_start _ _ _ c.requires.1
+
+pub put_head-headed-requires : goal.put_head-headed-requires
+unfolding encode_record
+put_head-headed-requires c = (c.requires.0, left_room (frame_head (length c.args.bytes.now)) c.args.bytes.now (begun (goal.at.put_head-headed-requires c).Start))
+
+pub put-requires : goal.put-requires
+unfolding encode_record
+put-requires c = left_fits (left_turn (frame_head (length c.args.bytes.now)) c.args.bytes.now (begun (goal.at.put-requires c).Start) c.put_head-headed.ensures)
+
+pub returns : goal.returns
+unfolding encode_record
+returns c = left_last (left_turn (frame_head (length c.args.bytes.now)) c.args.bytes.now (begun (goal.at.returns c).Start) c.put_head-headed.ensures) c.put.ensures

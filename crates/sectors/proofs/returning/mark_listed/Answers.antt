@@ -1,0 +1,79 @@
+-- `sectors::returning::mark_listed` meets its contract: the scenes of the records passed are marked, and the names that the list does not have are counted.
+use mathlib.Core.Path.{◌≡◌, ◌∙◌}
+use mathlib.Core.Logic.{⊎_elim}
+use Prim.Native.Nat.{◌-◌, ◌≤◌}
+use native.Mathlib.Omega.{arith}
+use lib.ListN.{length}
+use borrow.Author.Rules.{rules}
+use Rattle.names.proofs.Laws.Walk.{Step}
+use Rattle.namelist.specs.Listed.{listed, names_in}
+use Rattle.namelist.proofs.Laws.Listed.{good_count}
+use Rattle.sectors.proofs.Laws.Returning.{Returning, returning_start, returning_step, returning_marked, returning_counted, returning_used, returning_count}
+use Rattle.sectors.proofs.returning.mark_listed.Goals as goal
+
+-- how many names the list has
+counted : (c : goal.After-count-names ) → c.count-names.result ≡ length (names_in (listed c.args.list.now))
+counted c = c.count-names.ensures ∙ good_count c.args.list.now c.requires.1
+
+few : (c : goal.After-count-names ) → c.count-names.result ≤ 4096
+few c = omega (arith, counted c, c.requires.1.at_most)
+
+-- the record of this turn
+step : (c : goal.In-loop-size )
+    → Step c.args.image.now c.loop-size.at c.loop-size.size c.loop-size.invariant.done
+step c = returning_step _ _ _ _ _ _ _ c.loop-size.invariant c.loop-size-test.true
+
+pub loop-size-init : goal.loop-size-init
+loop-size-init c = returning_start _ _ _ _ c.record_at-size.ensures
+
+pub overflow_add-start : goal.overflow_add-start
+overflow_add-start c = omega (arith, (step c).size, (step c).ranges)
+
+pub overflow_add-at : goal.overflow_add-at
+overflow_add-at c = omega (arith, (step c).ranges)
+
+pub slice_bounds-position_of-count : goal.slice_bounds-position_of-count
+slice_bounds-position_of-count c = omega (arith, (step c).size)
+
+pub slice_bounds-position_of-start : goal.slice_bounds-position_of-start
+slice_bounds-position_of-start c = omega (arith, (step c).size)
+
+pub slice_bounds-position_of-end : goal.slice_bounds-position_of-end
+slice_bounds-position_of-end c = omega (arith, (step c).ranges)
+
+pub position_of-scene-requires : goal.position_of-scene-requires
+position_of-scene-requires c = c.requires.1
+
+pub overflow_cast-scene : goal.overflow_cast-scene
+overflow_cast-scene c = omega (arith, c.if-scene-names.true, few (goal.at.overflow_cast-scene c).After-count-names)
+
+pub mark_scene-requires : goal.mark_scene-requires
+mark_scene-requires c = omega (arith, c.if-scene-names.true, few (goal.at.mark_scene-requires c).After-count-names)
+
+pub overflow_add-unlisted : goal.overflow_add-unlisted
+overflow_add-unlisted c =
+    omega (arith, c.loop-size.invariant.few, (step (goal.at.overflow_add-unlisted c).In-loop-size).size, (step (goal.at.overflow_add-unlisted c).In-loop-size).ranges, c.requires.0)
+
+pub record_at-size-requires-in-loop-size : goal.record_at-size-requires-in-loop-size
+record_at-size-requires-in-loop-size c = (step (goal.at.record_at-size-requires-in-loop-size c).In-loop-size).fits
+
+pub loop-size-smaller : goal.loop-size-smaller
+loop-size-smaller c = omega (arith, (step (goal.at.loop-size-smaller c).In-loop-size).size, (step (goal.at.loop-size-smaller c).In-loop-size).ranges)
+
+pub loop-size-preserved : goal.loop-size-preserved
+loop-size-preserved c =
+    let place = c.position_of-scene in
+    let names = counted (goal.at.loop-size-preserved c).After-count-names in
+    ⊎_elim
+    (λ w. rw (w.3 ∙ w.2.ensures, w.4)
+    (returning_marked _ _ _ _ _ _ _ c.loop-size.invariant (step (goal.at.loop-size-preserved c).In-loop-size) _ _ place.ensures c.record_at-size-in-loop-size.ensures (omega (arith, w.0.taken, names))))
+    (λ w. rw (w.1, w.2)
+    (returning_counted _ _ _ _ _ _ _ c.loop-size.invariant (step (goal.at.loop-size-preserved c).In-loop-size) _ _ place.ensures c.record_at-size-in-loop-size.ensures (omega (arith, w.0.left, names))))
+    c.if-scene-names.branch
+
+pub returns : goal.returns
+returns c =
+    let inv = c.loop-size.invariant in (
+      returning_used _ _ _ _ _ _ _ inv c.loop-size-test.false c.requires.2 c.requires.3,
+      returning_count _ _ _ _ _ _ _ inv c.loop-size-test.false,
+    )

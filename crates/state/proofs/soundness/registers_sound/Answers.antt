@@ -1,0 +1,73 @@
+-- `state::soundness::registers_sound` meets its contract: each early return names the clause that fails, and behind the last of them all hold.
+use mathlib.Core.Path.{◌≡◌, sym, ◌∙◌, ap}
+use mathlib.Core.Bool.{true, false, ◌||◌, not, true≢false}
+use mathlib.Core.Logic.{⊎_elim}
+use Prim.Native.Nat.{◌≤◌, ◌<◌}
+use native.Mathlib.Omega.{arith}
+use borrow.Author.Tests.{not-true, not-false, lt-leb}
+use Rattle.common.proofs.Laws.Booleans.{or_imp}
+use Rattle.state.specs.declared.State.{State}
+use Rattle.state.specs.State.{data_of}
+use Rattle.state.specs.Soundness.{register_clauses, Busy}
+use Rattle.state.proofs.Laws.Clauses.{fails_at, denied, implies_fails, implies_holds}
+use Rattle.state.proofs.Laws.Soundness.{of_registers, busy_holds, busy_fails}
+use borrow.Author.Rules.{rules}
+use Rattle.state.proofs.soundness.registers_sound.Goals as goal
+
+pub returns-then-not-is_known : goal.returns-then-not-is_known
+returns-then-not-is_known c = let s = c.args.s in fails_at 0 (register_clauses s) (sym c.is_known.ensures ∙ not-true c.is_known.result c.if-not-is_known.true)
+
+pub returns-then-s-gt7 : goal.returns-then-s-gt7
+returns-then-s-gt7 c = let s = c.args.s in fails_at 1 (register_clauses s) (lt-leb s.bp 7 c.if-s-gt7.true)
+
+pub returns-then-chip-s : goal.returns-then-chip-s
+returns-then-chip-s c = let s = c.args.s in fails_at 2 (register_clauses s) (lt-leb _ _ (rw c.chip_of-chip.ensures at c.if-chip-s.true))
+
+pub returns-then-s : goal.returns-then-s
+returns-then-s c = busy_fails c.args.s c.if-s-gt0.true c.if-s.true
+
+pub returns-then-s-3 : goal.returns-then-s-3
+returns-then-s-3 c = let s = c.args.s in fails_at 6 (register_clauses s) (denied c.if-s-2.true (ap not c.if-s-3.true))
+
+pub returns-then-not-chip-s : goal.returns-then-not-chip-s
+returns-then-not-chip-s c = let s = c.args.s in fails_at 7 (register_clauses s) (denied c.if-s-2.true (not-true ((data_of s).ewsr || s.wel) (rw c.chip_of-chip.ensures at c.if-not-chip-s.true)))
+
+pub returns-then-s-chip : goal.returns-then-s-chip
+returns-then-s-chip c = let s = c.args.s in fails_at 8 (register_clauses s) (implies_fails s.tb (data_of s).top_bottom (rw c.chip_of-chip.ensures at c.if-s-chip.true))
+
+pub returns-then-s-chip-2 : goal.returns-then-s-chip-2
+returns-then-s-chip-2 c = let s = c.args.s in fails_at 9 (register_clauses s) (implies_fails s.power_down (data_of s).sleeps (rw c.chip_of-chip.ensures at c.if-s-chip-2.true))
+
+pub returns-then-s-chip-3 : goal.returns-then-s-chip-3
+returns-then-s-chip-3 c = let s = c.args.s in fails_at 10 (register_clauses s) (implies_fails s.aai (data_of s).aai (rw c.chip_of-chip.ensures at c.if-s-chip-3.true))
+
+-- ---- behind the branches that meet again: the state, and what each branch has shown of it
+abbrev state_at : tie.Joined3 → State
+state_at c = c.before.before.before.before.before.before.before.args.s
+
+left-short : (c : goal.Joined-s-gt0) → (state_at c).left ≤ (data_of (state_at c)).chip_time
+left-short c = ⊎_elim (λ w. rw c.chip_of-chip.ensures at w.3.left) (λ w. omega arith) c.if-s-gt0.branch
+
+while_busy : (c : goal.Joined-s-gt0) → 0 < (state_at c).left → Busy (state_at c)
+while_busy c h = ⊎_elim (λ w. busy_holds (state_at c) w.7.left) (λ w. absurd (omega arith)) c.if-s-gt0.branch
+
+armed_awake : (c : goal.Joined-s-2) → (state_at c).armed ≡ true → (state_at c).power_down ≡ false
+armed_awake c a = ⊎_elim (λ w. w.1.left) (λ w. absurd (true≢false (sym a ∙ w.left))) c.if-s-2.branch
+
+armed_enabled : (c : goal.Joined-s-2) → (data_of (state_at c)).ewsr ≡ false → (state_at c).armed ≡ true → (state_at c).wel ≡ true
+armed_enabled c e a =
+    let s = state_at c in
+    ⊎_elim
+    (λ w. or_imp (data_of s).ewsr s.wel (not-false ((data_of s).ewsr || s.wel) (rw c.chip_of-chip.ensures at w.4.left)) e)
+    (λ w. absurd (true≢false (sym a ∙ w.left)))
+    c.if-s-2.branch
+
+pub returns : goal.returns
+returns c =
+    let s = state_at (goal.at.returns c).Joined-s-gt0 in
+    let chip = c.chip_of-chip.ensures in
+    let known = sym c.is_known.ensures ∙ not-false c.is_known.result c.if-not-is_known.false in
+    sym (of_registers s known c.if-s-gt7.false (left-short (goal.at.returns c).Joined-s-gt0) (while_busy (goal.at.returns c).Joined-s-gt0) (armed_awake (goal.at.returns c).Joined-s-2) (armed_enabled (goal.at.returns c).Joined-s-2)
+    (implies_holds s.tb (data_of s).top_bottom (rw chip at c.if-s-chip.false))
+    (implies_holds s.power_down (data_of s).sleeps (rw chip at c.if-s-chip-2.false))
+    (implies_holds s.aai (data_of s).aai (rw chip at c.if-s-chip-3.false)))

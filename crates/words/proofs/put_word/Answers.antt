@@ -1,0 +1,42 @@
+-- `words::put_word` meets its contract: each of the four cases lays its records.
+use mathlib.Core.Bool.{true, false}
+use native.Mathlib.Omega.{arith}
+use borrow.Author.Rules.{rules}
+use Rattle.script.specs.Record.{encode}
+use Rattle.region.specs.Region.{wanted_at}
+use Rattle.common.proofs.Laws.Buffer.{Whole, left_start, put_none}
+use Rattle.script.proofs.Laws.Records.{encode_none}
+use Rattle.script.proofs.Laws.Writer.{record_room, record_turn, records_done}
+use Rattle.words.specs.Walk.{word_records}
+use Rattle.words.proofs.put_word.Goals as goal
+
+-- a run is closed: all of it is left before the call
+closing : (c : goal.Then-running-2) → let a = c.args in
+    Whole a.at (encode (word_records (wanted_at a.start a.wanted.now) true false a.address)) a.buffer.now
+closing c = left_start _ _ _ (rw (c.if-running-2.true, c.if-changes.false) at c.requires.1)
+
+pub put_further-requires : goal.put_further-requires
+put_further-requires c = (c.requires.0, rw (c.if-running.true, c.if-changes.true) at c.requires.1)
+
+pub put_first-requires : goal.put_first-requires
+put_first-requires c = (c.requires.0, rw (c.if-running.false, c.if-changes.true) at c.requires.1)
+
+pub put_frame-requires : goal.put_frame-requires
+unfolding word_records
+put_frame-requires c = (omega arith, record_room _ _ (closing (goal.at.put_frame-requires c).After-put_frame-arg-1))
+
+pub returns-then-running : goal.returns-then-running
+returns-then-running c = rw (c.if-running.true, c.if-changes.true) c.put_further.ensures
+
+pub returns-else-running : goal.returns-else-running
+returns-else-running c = rw (c.if-running.false, c.if-changes.true) c.put_first.ensures
+
+pub returns-then-running-2 : goal.returns-then-running-2
+unfolding word_records
+returns-then-running-2 c =
+    rw (c.if-running-2.true, c.if-changes.false)
+    (records_done (record_turn _ _ (closing (goal.at.returns-then-running-2 c).After-put_frame-arg-1) c.put_frame.ensures))
+
+pub returns-else-running-2 : goal.returns-else-running-2
+unfolding word_records
+returns-else-running-2 c = rw (c.if-running-2.false, c.if-changes.false, encode_none) (put_none _ _)
