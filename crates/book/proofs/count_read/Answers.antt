@@ -8,16 +8,16 @@ use Rattle.book.proofs.Laws.Answers.{count_refused, count-told}
 use borrow.Author.Rules.{rules}
 use Rattle.book.proofs.count_read.Goals as goal
 
--- no refusal holds
-accepted : (c : goal.Else-number-ne0) → let a = c.args in book_refusal a.s a.array.now a.sector [] ≡ 0
-accepted c = refusal_of_none _ _ _ ∙ sym c.book_refusal-number.ensures ∙ c.if-number-ne0.false
-
 pub returns-then-number-ne0 : goal.returns-then-number-ne0
 returns-then-number-ne0 c =
     c.tell.ensures ∙ sym (count_refused _ _ _ _ (omega arith) (refusal_of_none _ _ _ ∙ sym c.book_refusal-number.ensures))
 
 pub scenes_read-requires : goal.scenes_read-requires
-scenes_read-requires c = book_inside _ _ _ _ ((opened_exactly _ _ _ _).when (accepted c))
+scenes_read-requires c =
+    let accepted : let a = c.args in book_refusal a.s a.array.now a.sector [] ≡ 0 = refusal_of_none _ _ _ ∙ sym c.book_refusal-number.ensures ∙ c.if-number-ne0.false in
+    book_inside _ _ _ _ ((opened_exactly _ _ _ _).when accepted)
 
 pub returns : goal.returns
-returns c = c.tell-2.ensures ∙ rw c.scenes_read.ensures (sym (count-told _ _ _ (accepted (goal.at.returns c).Else-number-ne0)))
+returns c =
+    let accepted : let a = c.args in book_refusal a.s a.array.now a.sector [] ≡ 0 = refusal_of_none _ _ _ ∙ sym c.book_refusal-number.ensures ∙ c.if-number-ne0.false in
+    c.tell-2.ensures ∙ rw c.scenes_read.ensures (sym (count-told _ _ _ accepted))

@@ -9,24 +9,20 @@ use Rattle.book.proofs.Laws.Answers.{is-read-refused, is-read-told}
 use borrow.Author.Rules.{rules}
 use Rattle.book.proofs.is_read.Goals as goal
 
--- no refusal holds
-accepted : (c : goal.Else-number-ne0) → let a = c.args in book_refusal a.s a.array.now a.sector (a.scene ∷ []) ≡ 0
-accepted c = refusal_of_one _ _ _ _ ∙ sym c.book_refusal-number.ensures ∙ c.if-number-ne0.false
-
-open_at : (c : goal.Else-number-ne0) → let a = c.args in Opened a.s a.array.now a.sector (a.scene ∷ [])
-open_at c = (opened_exactly _ _ _ _).when (accepted c)
-
 pub returns-then-number-ne0 : goal.returns-then-number-ne0
 returns-then-number-ne0 c =
     c.tell.ensures ∙ sym (is-read-refused _ _ _ _ _ (omega arith) (refusal_of_one _ _ _ _ ∙ sym c.book_refusal-number.ensures))
 
 pub scene_read-requires : goal.scene_read-requires
 scene_read-requires c =
-    let o = open_at c in
+    let accepted : let a = c.args in book_refusal a.s a.array.now a.sector (a.scene ∷ []) ≡ 0 = refusal_of_one _ _ _ _ ∙ sym c.book_refusal-number.ensures ∙ c.if-number-ne0.false in
+    let open_at : let a = c.args in Opened a.s a.array.now a.sector (a.scene ∷ []) = (opened_exactly _ _ _ _).when accepted in
+    let o = open_at in
     (book_inside _ _ _ _ o, none_over _ o.scenes_kept 0 (omega arith))
 
 pub returns : goal.returns
 returns c =
+    let accepted : let a = c.args in book_refusal a.s a.array.now a.sector (a.scene ∷ []) ≡ 0 = refusal_of_one _ _ _ _ ∙ sym c.book_refusal-number.ensures ∙ c.if-number-ne0.false in
     c.tell-2.ensures
     ∙ rw (c.wide.ensures.0, c.bit_of-flag.ensures.0, c.scene_read.ensures)
-    (sym (is-read-told _ _ _ _ (accepted (goal.at.returns c).Else-number-ne0)))
+    (sym (is-read-told _ _ _ _ accepted))

@@ -29,88 +29,94 @@ use Rattle.flags.proofs.Laws.Answers.{
 }
 use Rattle.flags.proofs.mark.Goals as goal
 
--- ---- behind the first test: no refusal about the name holds
-abbrev Part : tie.Else1 → List ℕ
-Part c = let a = c.before.before.before.before.before.args in sector_part a.array.now a.sector
-
-abbrev Name : tie.Else1 → List ℕ
-Name c = c.before.before.before.before.before.args.name.now
-
-clear : (c : goal.Else-number-ne0) → let a = c.args in name_refusal a.s a.array.now a.sector a.name.now ≡ 0
-clear c = name_refusal_of _ _ _ _ ∙ sym c.name_refusal-number.ensures ∙ c.if-number-ne0.false
-
-inside : (c : goal.Else-number-ne0) → let a = c.args in a.sector + 4096 ≤ length a.array.now
-inside c = name-inside _ _ _ _ (clear c)
-
-long : (c : goal.Else-number-ne0) → length (Part c) ≡ 4096
-long c = let a = c.args in sector_long a.array.now a.sector (inside c)
-
--- ---- the search
-searched : (c : goal.After-find-search) → Searched (Part c) (Name c) c.find-search.result
-searched c = let a = c.args in rw (sector_sliced a.array.now a.sector) at c.find-search.ensures
-
--- none has the name
-off : (c : goal.Else-search) → is_on (Name c) (names_of (Part c)) ≡ false
-off c = sym (searched c).found_is ∙ c.if-search.false
-
-end_is : (c : goal.Else-search) → c.find-search.result.end ≡ length (records_bytes true (names_of (Part c)))
-end_is c = (searched c).end_is c.if-search.false
-
-end-most : (c : goal.Else-search) → c.find-search.result.end ≤ 4096
-end-most c = omega (arith, end_is c, records-inside (Part c), long c)
-
--- and its record fits
-roomy : (c : goal.Else-search-name) → c.find-search.result.end + (3 + length (Name c)) ≤ 4096
-roomy c = omega (arith, c.if-search-name.false, end-most c)
-
--- the sector with it
-laid : (c : goal.After-append) → c.append.new.wanted ≡ wanted_mark (Part c) (Name c)
-laid c =
-    let a = c.args in
-    appended-wanted _ _ _ (searched c) c.if-search.false _ (rw (sector_sliced a.array.now a.sector) at c.append.ensures)
-
 pub returns-then-number-ne0 : goal.returns-then-number-ne0
 returns-then-number-ne0 c =
     rw c.refuse_plan.ensures
     (name-marks-refused _ _ _ _ _ _ _ (omega arith) (mark-own _ _ _ _ _ (omega arith) (name_refusal_of _ _ _ _ ∙ sym c.name_refusal-number.ensures)))
 
 pub overflow_add-end : goal.overflow_add-end
-overflow_add-end c = omega (arith, inside c)
+overflow_add-end c =
+    let clear : let a = c.args in name_refusal a.s a.array.now a.sector a.name.now ≡ 0 = name_refusal_of _ _ _ _ ∙ sym c.name_refusal-number.ensures ∙ c.if-number-ne0.false in
+    let inside : let a = c.args in a.sector + 4096 ≤ length a.array.now = name-inside _ _ _ _ clear in
+    omega (arith, inside)
 
 pub slice_bounds-image-end : goal.slice_bounds-image-end
-slice_bounds-image-end c = inside c
+slice_bounds-image-end c =
+    let clear : let a = c.args in name_refusal a.s a.array.now a.sector a.name.now ≡ 0 = name_refusal_of _ _ _ _ ∙ sym c.name_refusal-number.ensures ∙ c.if-number-ne0.false in
+    let inside : let a = c.args in a.sector + 4096 ≤ length a.array.now = name-inside _ _ _ _ clear in
+    inside
 
 pub returns-then-search : goal.returns-then-search
 returns-then-search c =
+    let clear : let a = c.args in name_refusal a.s a.array.now a.sector a.name.now ≡ 0 = name_refusal_of _ _ _ _ ∙ sym c.name_refusal-number.ensures ∙ c.if-number-ne0.false in
+    let searched : Searched ((let a = c.args in sector_part a.array.now a.sector)) (c.args.name.now) c.find-search.result = let a = c.args in rw (sector_sliced a.array.now a.sector) at c.find-search.ensures in
     let a = c.args in
     let taken = c.if-search.true in
-    name-marks-planned _ _ _ _ _ _ _ _ (mark-none-there _ _ _ _ (clear (goal.at.returns-then-search c).Else-number-ne0) (sym (searched (goal.at.returns-then-search c).After-find-search).found_is ∙ taken))
-    (rw (sector_sliced a.array.now a.sector ∙ found-wanted _ _ _ (searched (goal.at.returns-then-search c).After-find-search) taken) at c.plan_update.ensures)
+    name-marks-planned _ _ _ _ _ _ _ _ (mark-none-there _ _ _ _ clear (sym searched.found_is ∙ taken))
+    (rw (sector_sliced a.array.now a.sector ∙ found-wanted _ _ _ searched taken) at c.plan_update.ensures)
 
 pub overflow_sub-search : goal.overflow_sub-search
-overflow_sub-search c = omega (arith, end-most (goal.at.overflow_sub-search c).Else-search)
+overflow_sub-search c =
+    let searched : Searched ((let a = c.args in sector_part a.array.now a.sector)) (c.args.name.now) c.find-search.result = let a = c.args in rw (sector_sliced a.array.now a.sector) at c.find-search.ensures in
+    let end_is : c.find-search.result.end ≡ length (records_bytes true (names_of ((let a = c.args in sector_part a.array.now a.sector)))) = searched.end_is c.if-search.false in
+    let clear : let a = c.args in name_refusal a.s a.array.now a.sector a.name.now ≡ 0 = name_refusal_of _ _ _ _ ∙ sym c.name_refusal-number.ensures ∙ c.if-number-ne0.false in
+    let inside : let a = c.args in a.sector + 4096 ≤ length a.array.now = name-inside _ _ _ _ clear in
+    let long : length ((let a = c.args in sector_part a.array.now a.sector)) ≡ 4096 = let a = c.args in sector_long a.array.now a.sector inside in
+    let end-most : c.find-search.result.end ≤ 4096 = omega (arith, end_is, records-inside ((let a = c.args in sector_part a.array.now a.sector)), long) in
+    omega (arith, end-most)
 
 pub returns-then-search-name : goal.returns-then-search-name
 returns-then-search-name c =
+    let clear : let a = c.args in name_refusal a.s a.array.now a.sector a.name.now ≡ 0 = name_refusal_of _ _ _ _ ∙ sym c.name_refusal-number.ensures ∙ c.if-number-ne0.false in
+    let searched : Searched ((let a = c.args in sector_part a.array.now a.sector)) (c.args.name.now) c.find-search.result = let a = c.args in rw (sector_sliced a.array.now a.sector) at c.find-search.ensures in
+    let off : is_on (c.args.name.now) (names_of ((let a = c.args in sector_part a.array.now a.sector))) ≡ false = sym searched.found_is ∙ c.if-search.false in
+    let end_is : c.find-search.result.end ≡ length (records_bytes true (names_of ((let a = c.args in sector_part a.array.now a.sector)))) = searched.end_is c.if-search.false in
+    let inside : let a = c.args in a.sector + 4096 ≤ length a.array.now = name-inside _ _ _ _ clear in
+    let long : length ((let a = c.args in sector_part a.array.now a.sector)) ≡ 4096 = let a = c.args in sector_long a.array.now a.sector inside in
+    let end-most : c.find-search.result.end ≤ 4096 = omega (arith, end_is, records-inside ((let a = c.args in sector_part a.array.now a.sector)), long) in
     rw c.refuse_plan-then-search-name.ensures
     (name-marks-refused _ _ _ _ _ _ _ (omega arith)
-    (mark-full _ _ _ _ (clear (goal.at.returns-then-search-name c).Else-number-ne0) (off (goal.at.returns-then-search-name c).Else-search) (omega (arith, c.if-search-name.true, end_is (goal.at.returns-then-search-name c).Else-search, end-most (goal.at.returns-then-search-name c).Else-search))))
+    (mark-full _ _ _ _ clear off (omega (arith, c.if-search-name.true, end_is, end-most))))
 
 pub append-requires : goal.append-requires
 append-requires c =
+    let clear : let a = c.args in name_refusal a.s a.array.now a.sector a.name.now ≡ 0 = name_refusal_of _ _ _ _ ∙ sym c.name_refusal-number.ensures ∙ c.if-number-ne0.false in
+    let inside : let a = c.args in a.sector + 4096 ≤ length a.array.now = name-inside _ _ _ _ clear in
+    let long : length ((let a = c.args in sector_part a.array.now a.sector)) ≡ 4096 = let a = c.args in sector_long a.array.now a.sector inside in
+    let searched : Searched ((let a = c.args in sector_part a.array.now a.sector)) (c.args.name.now) c.find-search.result = let a = c.args in rw (sector_sliced a.array.now a.sector) at c.find-search.ensures in
+    let end_is : c.find-search.result.end ≡ length (records_bytes true (names_of ((let a = c.args in sector_part a.array.now a.sector)))) = searched.end_is c.if-search.false in
+    let end-most : c.find-search.result.end ≤ 4096 = omega (arith, end_is, records-inside ((let a = c.args in sector_part a.array.now a.sector)), long) in
+    let roomy : c.find-search.result.end + (3 + length (c.args.name.now)) ≤ 4096 = omega (arith, c.if-search-name.false, end-most) in
     let a = c.args in (
       c.blank-wanted.ensures,
-      ap length (sector_sliced a.array.now a.sector) ∙ long (goal.at.append-requires c).Else-number-ne0,
-      name-short _ _ _ _ (clear (goal.at.append-requires c).Else-number-ne0),
-      roomy (goal.at.append-requires c).Else-search-name,
+      ap length (sector_sliced a.array.now a.sector) ∙ long,
+      name-short _ _ _ _ clear,
+      roomy,
     )
 
 pub slice_bounds-plan_update-end : goal.slice_bounds-plan_update-end
 slice_bounds-plan_update-end c =
-    sym (ap length (laid (goal.at.slice_bounds-plan_update-end c).After-append) ∙ appended-long _ _ _ (searched (goal.at.slice_bounds-plan_update-end c).After-find-search) c.if-search.false (roomy (goal.at.slice_bounds-plan_update-end c).Else-search-name))
+    let searched : Searched ((let a = c.args in sector_part a.array.now a.sector)) (c.args.name.now) c.find-search.result = let a = c.args in rw (sector_sliced a.array.now a.sector) at c.find-search.ensures in
+    let laid : c.append.new.wanted ≡ wanted_mark ((let a = c.args in sector_part a.array.now a.sector)) (c.args.name.now) = let a = c.args in appended-wanted _ _ _ searched c.if-search.false _ (rw (sector_sliced a.array.now a.sector) at c.append.ensures) in
+    let end_is : c.find-search.result.end ≡ length (records_bytes true (names_of ((let a = c.args in sector_part a.array.now a.sector)))) = searched.end_is c.if-search.false in
+    let clear : let a = c.args in name_refusal a.s a.array.now a.sector a.name.now ≡ 0 = name_refusal_of _ _ _ _ ∙ sym c.name_refusal-number.ensures ∙ c.if-number-ne0.false in
+    let inside : let a = c.args in a.sector + 4096 ≤ length a.array.now = name-inside _ _ _ _ clear in
+    let long : length ((let a = c.args in sector_part a.array.now a.sector)) ≡ 4096 = let a = c.args in sector_long a.array.now a.sector inside in
+    let end-most : c.find-search.result.end ≤ 4096 = omega (arith, end_is, records-inside ((let a = c.args in sector_part a.array.now a.sector)), long) in
+    let roomy : c.find-search.result.end + (3 + length (c.args.name.now)) ≤ 4096 = omega (arith, c.if-search-name.false, end-most) in
+    sym (ap length laid ∙ appended-long _ _ _ searched c.if-search.false roomy)
 
 pub returns : goal.returns
 returns c =
+    let clear : let a = c.args in name_refusal a.s a.array.now a.sector a.name.now ≡ 0 = name_refusal_of _ _ _ _ ∙ sym c.name_refusal-number.ensures ∙ c.if-number-ne0.false in
+    let searched : Searched ((let a = c.args in sector_part a.array.now a.sector)) (c.args.name.now) c.find-search.result = let a = c.args in rw (sector_sliced a.array.now a.sector) at c.find-search.ensures in
+    let off : is_on (c.args.name.now) (names_of ((let a = c.args in sector_part a.array.now a.sector))) ≡ false = sym searched.found_is ∙ c.if-search.false in
+    let end_is : c.find-search.result.end ≡ length (records_bytes true (names_of ((let a = c.args in sector_part a.array.now a.sector)))) = searched.end_is c.if-search.false in
+    let inside : let a = c.args in a.sector + 4096 ≤ length a.array.now = name-inside _ _ _ _ clear in
+    let long : length ((let a = c.args in sector_part a.array.now a.sector)) ≡ 4096 = let a = c.args in sector_long a.array.now a.sector inside in
+    let end-most : c.find-search.result.end ≤ 4096 = omega (arith, end_is, records-inside ((let a = c.args in sector_part a.array.now a.sector)), long) in
+    let roomy : c.find-search.result.end + (3 + length (c.args.name.now)) ≤ 4096 = omega (arith, c.if-search-name.false, end-most) in
+    let laid : c.append.new.wanted ≡ wanted_mark ((let a = c.args in sector_part a.array.now a.sector)) (c.args.name.now) = let a = c.args in appended-wanted _ _ _ searched c.if-search.false _ (rw (sector_sliced a.array.now a.sector) at c.append.ensures) in
     name-marks-planned _ _ _ _ _ _ _ _
-    (mark-none-roomy _ _ _ _ (clear (goal.at.returns c).Else-number-ne0) (off (goal.at.returns c).Else-search) (omega (arith, roomy (goal.at.returns c).Else-search-name, end_is (goal.at.returns c).Else-search)))
-    (rw (laid (goal.at.returns c).After-append) at c.plan_update-2.ensures)
+    (mark-none-roomy _ _ _ _ clear off (omega (arith, roomy, end_is)))
+    (rw laid at c.plan_update-2.ensures)

@@ -6,8 +6,7 @@ use Rattle.common.specs.Refusals.{accepted}
 use Rattle.common.proofs.Laws.Choice.{yes, no}
 use Rattle.flags.proofs.return_of.Goals as goal
 
-told_is : (c : goal.After-state-1) → let a = c.args in c.if-planned-eq0.told ≡ accepted a.planned.number a.unlisted 0
-told_is c = ⊎_elim (λ w. yes _ (eq-eqb _ 0 w.0.taken) w.1) (λ w. no _ (ne_eqb _ 0 w.0.left) w.1) c.if-planned-eq0.branch
-
 pub returns : goal.returns
-returns c = rw (told_is c) refl
+returns c =
+    let told_is : let a = c.args in c.if-planned-eq0.told ≡ accepted a.planned.number a.unlisted 0 = ⊎_elim (λ w. yes _ (eq-eqb _ 0 w.0.taken) w.1) (λ w. no _ (ne_eqb _ 0 w.0.left) w.1) c.if-planned-eq0.branch in
+    rw told_is refl

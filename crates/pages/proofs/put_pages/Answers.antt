@@ -16,10 +16,13 @@ pub overflow_mul-page : goal.overflow_mul-page
 overflow_mul-page c = omega arith
 
 pub loop-page-init : goal.loop-page-init
-loop-page-init c = (omega arith, omega arith, left_start _ _ _ (rw (pages_start _ _ _ _) at c.requires.1))
+loop-page-init c = (omega arith, omega arith, left_start _ _ _ (rw (pages_start _ _ _ _) at c.requires.wanted_in_bounds))
 
 pub page_part-requires : goal.page_part-requires
-page_part-requires c = (c.requires.0, (omega arith, omega arith))
+page_part-requires c = record {
+      inside = c.requires.inside;
+      start_bound = (omega arith, omega arith);
+    }
 
 pub put_part-next-requires : goal.put_part-next-requires
 put_part-next-requires c =

@@ -14,39 +14,46 @@ use Rattle.pages.specs.Pages.{part_records}
 use Rattle.pages.proofs.Laws.Parts.{part_bytes, part_bytes_lem}
 use Rattle.pages.proofs.put_part.Goals as goal
 
--- there is something to send: all of it is left before the first call
-sent-bytes : (c : goal.Else-from-to) → let a = c.args in
-    encode (part_records (wanted_at a.start a.wanted.now) a.part.from (a.part.to - a.part.from)) ≡ part_bytes a.start a.wanted.now a.part.from a.part.to
-sent-bytes c = let a = c.args in part_bytes_lem a.start a.wanted.now a.part.from a.part.to (omega arith) (omega arith) (omega arith)
-
-begun : (c : goal.Else-from-to) → let a = c.args in Whole a.at (part_bytes a.start a.wanted.now a.part.from a.part.to) a.buffer.now
-begun c = left_start _ _ _ (rw (sent-bytes c) at c.requires.1)
-
 returns c = let e : c.before.before.before.args.part.to - c.before.before.before.args.part.from ≡ 0 = omega arith in rw (e, encode_none) (put_none _ _)
 
 pub put_frame-enabled-requires : goal.put_frame-enabled-requires
-put_frame-enabled-requires c = (omega arith, left_room (encode_record (frame (0x06 ∷ []))) _ (begun (goal.at.put_frame-enabled-requires c).After-address_bytes-place))
+put_frame-enabled-requires c =
+    let sent-bytes : let a = c.args in encode (part_records (wanted_at a.start a.wanted.now) a.part.from (a.part.to - a.part.from)) ≡ part_bytes a.start a.wanted.now a.part.from a.part.to = let a = c.args in part_bytes_lem a.start a.wanted.now a.part.from a.part.to (omega arith) (omega arith) (omega arith) in
+    let begun : let a = c.args in Whole a.at (part_bytes a.start a.wanted.now a.part.from a.part.to) a.buffer.now = left_start _ _ _ (rw sent-bytes at c.requires.from_in_bounds) in
+    (omega arith, left_room (encode_record (frame (0x06 ∷ []))) _ begun)
 
 pub put_head-headed-requires : goal.put_head-headed-requires
-put_head-headed-requires c = (omega arith, left_room (frame_head _) _ (left_turn _ _ (begun (goal.at.put_head-headed-requires c).After-address_bytes-place) c.put_frame-enabled.ensures))
+put_head-headed-requires c =
+    let sent-bytes : let a = c.args in encode (part_records (wanted_at a.start a.wanted.now) a.part.from (a.part.to - a.part.from)) ≡ part_bytes a.start a.wanted.now a.part.from a.part.to = let a = c.args in part_bytes_lem a.start a.wanted.now a.part.from a.part.to (omega arith) (omega arith) (omega arith) in
+    let begun : let a = c.args in Whole a.at (part_bytes a.start a.wanted.now a.part.from a.part.to) a.buffer.now = left_start _ _ _ (rw sent-bytes at c.requires.from_in_bounds) in
+    (omega arith, left_room (frame_head _) _ (left_turn _ _ begun c.put_frame-enabled.ensures))
 
 pub put-addressed-requires : goal.put-addressed-requires
-put-addressed-requires c = left_room (0x02 ∷ address_bytes _) _ (left_turn (frame_head _) _ (left_turn _ _ (begun (goal.at.put-addressed-requires c).After-address_bytes-place) c.put_frame-enabled.ensures) c.put_head-headed.ensures)
+put-addressed-requires c =
+    let sent-bytes : let a = c.args in encode (part_records (wanted_at a.start a.wanted.now) a.part.from (a.part.to - a.part.from)) ≡ part_bytes a.start a.wanted.now a.part.from a.part.to = let a = c.args in part_bytes_lem a.start a.wanted.now a.part.from a.part.to (omega arith) (omega arith) (omega arith) in
+    let begun : let a = c.args in Whole a.at (part_bytes a.start a.wanted.now a.part.from a.part.to) a.buffer.now = left_start _ _ _ (rw sent-bytes at c.requires.from_in_bounds) in
+    left_room (0x02 ∷ address_bytes _) _ (left_turn (frame_head _) _ (left_turn _ _ begun c.put_frame-enabled.ensures) c.put_head-headed.ensures)
 
 pub put-sent-requires : goal.put-sent-requires
 put-sent-requires c =
+    let sent-bytes : let a = c.args in encode (part_records (wanted_at a.start a.wanted.now) a.part.from (a.part.to - a.part.from)) ≡ part_bytes a.start a.wanted.now a.part.from a.part.to = let a = c.args in part_bytes_lem a.start a.wanted.now a.part.from a.part.to (omega arith) (omega arith) (omega arith) in
+    let begun : let a = c.args in Whole a.at (part_bytes a.start a.wanted.now a.part.from a.part.to) a.buffer.now = left_start _ _ _ (rw sent-bytes at c.requires.from_in_bounds) in
     let a = c.args in
     left_room (take (a.part.to - a.start - (a.part.from - a.start)) (drop (a.part.from - a.start) a.wanted.now)) _
-    (left_turn (0x02 ∷ address_bytes _) _ (left_turn (frame_head _) _ (left_turn _ _ (begun (goal.at.put-sent-requires c).After-address_bytes-place) c.put_frame-enabled.ensures) c.put_head-headed.ensures)
+    (left_turn (0x02 ∷ address_bytes _) _ (left_turn (frame_head _) _ (left_turn _ _ begun c.put_frame-enabled.ensures) c.put_head-headed.ensures)
     (rw c.address_bytes-place.ensures at c.put-addressed.ensures))
 
 pub put_wait-requires : goal.put_wait-requires
 put_wait-requires c =
-    left_fits (left_turn _ _ (left_turn (0x02 ∷ address_bytes _) _ (left_turn (frame_head _) _ (left_turn _ _ (begun (goal.at.put_wait-requires c).After-address_bytes-place) c.put_frame-enabled.ensures) c.put_head-headed.ensures)
+    let sent-bytes : let a = c.args in encode (part_records (wanted_at a.start a.wanted.now) a.part.from (a.part.to - a.part.from)) ≡ part_bytes a.start a.wanted.now a.part.from a.part.to = let a = c.args in part_bytes_lem a.start a.wanted.now a.part.from a.part.to (omega arith) (omega arith) (omega arith) in
+    let begun : let a = c.args in Whole a.at (part_bytes a.start a.wanted.now a.part.from a.part.to) a.buffer.now = left_start _ _ _ (rw sent-bytes at c.requires.from_in_bounds) in
+    left_fits (left_turn _ _ (left_turn (0x02 ∷ address_bytes _) _ (left_turn (frame_head _) _ (left_turn _ _ begun c.put_frame-enabled.ensures) c.put_head-headed.ensures)
     (rw c.address_bytes-place.ensures at c.put-addressed.ensures)) c.put-sent.ensures)
 
 pub returns : goal.returns
 returns c =
-    rw (sent-bytes (goal.at.returns c).After-address_bytes-place)
-    (left_last (left_turn _ _ (left_turn (0x02 ∷ address_bytes _) _ (left_turn (frame_head _) _ (left_turn _ _ (begun (goal.at.returns c).After-address_bytes-place) c.put_frame-enabled.ensures) c.put_head-headed.ensures)
+    let sent-bytes : let a = c.args in encode (part_records (wanted_at a.start a.wanted.now) a.part.from (a.part.to - a.part.from)) ≡ part_bytes a.start a.wanted.now a.part.from a.part.to = let a = c.args in part_bytes_lem a.start a.wanted.now a.part.from a.part.to (omega arith) (omega arith) (omega arith) in
+    let begun : let a = c.args in Whole a.at (part_bytes a.start a.wanted.now a.part.from a.part.to) a.buffer.now = left_start _ _ _ (rw sent-bytes at c.requires.from_in_bounds) in
+    rw sent-bytes
+    (left_last (left_turn _ _ (left_turn (0x02 ∷ address_bytes _) _ (left_turn (frame_head _) _ (left_turn _ _ begun c.put_frame-enabled.ensures) c.put_head-headed.ensures)
     (rw c.address_bytes-place.ensures at c.put-addressed.ensures)) c.put-sent.ensures) c.put_wait.ensures)

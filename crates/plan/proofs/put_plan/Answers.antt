@@ -9,30 +9,31 @@ use Rattle.plan.specs.Plan.{status_step, program_step}
 use Rattle.plan.proofs.Laws.Plan.{plan_bytes}
 use Rattle.plan.proofs.put_plan.Goals as goal
 
--- all of it is left before the first call
-begun : (c : goal.Start) → let a = c.args in
-    Whole 0 (encode (status_step a.needed a.s 0)
-    ++ (encode (program_step (data_of a.s).word_plans a.array.now a.start a.wanted.now) ++ encode (status_step a.needed a.s a.s.bp))) a.buffer.now
-begun c = let a = c.args in left_start _ _ _ (rw (← plan_bytes a.s a.array.now a.start a.wanted.now a.needed c.requires.1.1.0) (omega arith))
-
 pub put_status-unprotected-requires : goal.put_status-unprotected-requires
-put_status-unprotected-requires c = (omega arith, left_room (encode (status_step c.args.needed c.args.s 0)) _ (begun (goal.at.put_status-unprotected-requires c).Start))
+put_status-unprotected-requires c =
+    let begun : let a = c.args in Whole 0 (encode (status_step a.needed a.s 0) ++ (encode (program_step (data_of a.s).word_plans a.array.now a.start a.wanted.now) ++ encode (status_step a.needed a.s a.s.bp))) a.buffer.now = let a = c.args in left_start _ _ _ (rw (← plan_bytes a.s a.array.now a.start a.wanted.now a.needed c.requires.needed_value) (omega arith)) in
+    (omega arith, left_room (encode (status_step c.args.needed c.args.s 0)) _ begun)
 
 pub put_program-programmed-requires : goal.put_program-programmed-requires
 put_program-programmed-requires c =
+    let begun : let a = c.args in Whole 0 (encode (status_step a.needed a.s 0) ++ (encode (program_step (data_of a.s).word_plans a.array.now a.start a.wanted.now) ++ encode (status_step a.needed a.s a.s.bp))) a.buffer.now = let a = c.args in left_start _ _ _ (rw (← plan_bytes a.s a.array.now a.start a.wanted.now a.needed c.requires.needed_value) (omega arith)) in
     let a = c.args in (
-      c.requires.0,
+      c.requires.inside,
       rw c.chip_of-words.ensures (left_room (encode (program_step (data_of a.s).word_plans a.array.now a.start a.wanted.now)) _
-          (left_turn _ _ (begun (goal.at.put_program-programmed-requires c).Start) c.put_status-unprotected.ensures)),
+          (left_turn _ _ begun c.put_status-unprotected.ensures)),
     )
 
 pub put_status-requires : goal.put_status-requires
 put_status-requires c =
-    (c.requires.1.0, left_fits (left_turn _ _ (left_turn _ _ (begun (goal.at.put_status-requires c).Start) c.put_status-unprotected.ensures) (rw c.chip_of-words.ensures at c.put_program-programmed.ensures)))
+    let begun : let a = c.args in Whole 0 (encode (status_step a.needed a.s 0) ++ (encode (program_step (data_of a.s).word_plans a.array.now a.start a.wanted.now) ++ encode (status_step a.needed a.s a.s.bp))) a.buffer.now = let a = c.args in left_start _ _ _ (rw (← plan_bytes a.s a.array.now a.start a.wanted.now a.needed c.requires.needed_value) (omega arith)) in record {
+      bp_bound = c.requires.bp_bound;
+      bp_in_bounds = left_fits (left_turn _ _ (left_turn _ _ begun c.put_status-unprotected.ensures) (rw c.chip_of-words.ensures at c.put_program-programmed.ensures));
+    }
 
 pub returns : goal.returns
 returns c =
+    let begun : let a = c.args in Whole 0 (encode (status_step a.needed a.s 0) ++ (encode (program_step (data_of a.s).word_plans a.array.now a.start a.wanted.now) ++ encode (status_step a.needed a.s a.s.bp))) a.buffer.now = let a = c.args in left_start _ _ _ (rw (← plan_bytes a.s a.array.now a.start a.wanted.now a.needed c.requires.needed_value) (omega arith)) in
     let a = c.args in
-    rw (plan_bytes a.s a.array.now a.start a.wanted.now a.needed c.requires.1.1.0)
-    (left_last (left_turn _ _ (left_turn _ _ (begun (goal.at.returns c).Start) c.put_status-unprotected.ensures) (rw c.chip_of-words.ensures at c.put_program-programmed.ensures))
+    rw (plan_bytes a.s a.array.now a.start a.wanted.now a.needed c.requires.needed_value)
+    (left_last (left_turn _ _ (left_turn _ _ begun c.put_status-unprotected.ensures) (rw c.chip_of-words.ensures at c.put_program-programmed.ensures))
     c.put_status.ensures)

@@ -8,9 +8,6 @@ use Rattle.run.proofs.Laws.Script.{script_refused, script_accepted}
 use borrow.Author.Rules.{rules}
 use Rattle.run.proofs.run_script.Goals as goal
 
-took : (c : goal.Else-number-ne0) → let a = c.args in ScriptAccepted a.wp a.script.now (device a.s a.array.now) (on_line a.output.now a.driven.now)
-took c = number_accepted _ _ _ _ (sym c.script_number-number.ensures ∙ c.if-number-ne0.false)
-
 pub script_number-number-requires : goal.script_number-number-requires
 script_number-number-requires c = c.survey_of-survey.ensures
 
@@ -23,10 +20,13 @@ returns-then-number-ne0 c =
     rw (number_is, told ∙ sym (offset_surveyed _ _ _ _)) (script_refused _ _ _ _ (λ z. c.if-number-ne0.true (number_is ∙ z)))
 
 pub run_records-state-requires : goal.run_records-state-requires
-run_records-state-requires c = took (goal.at.run_records-state-requires c).Else-number-ne0
+run_records-state-requires c =
+    let took : let a = c.args in ScriptAccepted a.wp a.script.now (device a.s a.array.now) (on_line a.output.now a.driven.now) = number_accepted _ _ _ _ (sym c.script_number-number.ensures ∙ c.if-number-ne0.false) in
+    took
 
 pub returns : goal.returns
 returns c =
-    let a = took (goal.at.returns c).Else-number-ne0 in
+    let took : let a = c.args in ScriptAccepted a.wp a.script.now (device a.s a.array.now) (on_line a.output.now a.driven.now) = number_accepted _ _ _ _ (sym c.script_number-number.ensures ∙ c.if-number-ne0.false) in
+    let a = took in
     let survey_is = c.survey_of-survey.ensures in
     rw (survey_is, counts_surveyed _ _ _ _ a) (script_accepted _ _ _ _ a c.run_records-state.ensures)

@@ -13,10 +13,6 @@ use Rattle.run.proofs.Laws.Accepted.{number_surveyed}
 use borrow.Author.Rules.{rules}
 use Rattle.run.proofs.script_number.Goals as goal
 
--- 1 and 2 are passed
-sound : (c : goal.Else-not-is_sound) → not (is_sound c.args.s) ≡ false
-sound c = rw c.is_sound.ensures at c.if-not-is_sound.false
-
 sized : (c : goal.Else-array-chip_of)
     → let a = c.args in not (eqb (length a.array.now) (data_of a.s).size) ≡ false
 sized c = ap not (eq-eqb _ _ (rw c.chip_of.ensures at c.if-array-chip_of.false))
@@ -26,13 +22,15 @@ returns-then-not-is_sound c = yes _ (rw c.is_sound.ensures at c.if-not-is_sound.
 
 pub returns-then-array-chip_of : goal.returns-then-array-chip_of
 returns-then-array-chip_of c =
-    no _ (sound (goal.at.returns-then-array-chip_of c).Else-not-is_sound) (yes _ (ap not (rw c.chip_of.ensures at (ne_eqb _ _ c.if-array-chip_of.true))) refl)
+    let sound : not (is_sound c.args.s) ≡ false = rw c.is_sound.ensures at c.if-not-is_sound.false in
+    no _ sound (yes _ (ap not (rw c.chip_of.ensures at (ne_eqb _ _ c.if-array-chip_of.true))) refl)
     ∙ sym (number_surveyed _ _ _ _)
 
 pub returns-then-survey-ne0 : goal.returns-then-survey-ne0
 returns-then-survey-ne0 c =
+    let sound : not (is_sound c.args.s) ≡ false = rw c.is_sound.ensures at c.if-not-is_sound.false in
     ap (λ (v : Surveyed). v.number) c.requires
-    ∙ no _ (sound (goal.at.returns-then-survey-ne0 c).Else-not-is_sound) (no _ (sized (goal.at.returns-then-survey-ne0 c).Else-array-chip_of) (yes _ (ap not (ne_eqb _ 0 (rw c.requires at c.if-survey-ne0.true))) refl))
+    ∙ no _ sound (no _ (sized (goal.at.returns-then-survey-ne0 c).Else-array-chip_of) (yes _ (ap not (ne_eqb _ 0 (rw c.requires at c.if-survey-ne0.true))) refl))
     ∙ sym (number_surveyed _ _ _ _)
 
 -- the script's own refusals are passed
@@ -43,12 +41,14 @@ surveyed c =
 
 pub returns-then-output-survey : goal.returns-then-output-survey
 returns-then-output-survey c =
-    no _ (sound (goal.at.returns-then-output-survey c).Else-not-is_sound)
+    let sound : not (is_sound c.args.s) ≡ false = rw c.is_sound.ensures at c.if-not-is_sound.false in
+    no _ sound
     (no _ (sized (goal.at.returns-then-output-survey c).Else-array-chip_of) (no _ (surveyed (goal.at.returns-then-output-survey c).Else-survey-ne0) (yes _ (rw c.requires at c.if-output-survey.true) refl)))
     ∙ sym (number_surveyed _ _ _ _)
 
 pub returns : goal.returns
 returns c =
-    no _ (sound (goal.at.returns c).Else-not-is_sound)
+    let sound : not (is_sound c.args.s) ≡ false = rw c.is_sound.ensures at c.if-not-is_sound.false in
+    no _ sound
     (no _ (sized (goal.at.returns c).Else-array-chip_of) (no _ (surveyed (goal.at.returns c).Else-survey-ne0) (no _ (rw c.requires at c.if-output-survey.false) refl)))
     ∙ sym (number_surveyed _ _ _ _)

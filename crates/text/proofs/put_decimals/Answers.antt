@@ -10,7 +10,7 @@ use borrow.Author.Rules.{rules}
 use Rattle.text.proofs.put_decimals.Goals as goal
 
 pub loop-i-init : goal.loop-i-init
-loop-i-init c = (omega arith, left_start _ _ _ c.requires.1)
+loop-i-init c = (omega arith, left_start _ _ _ c.requires.numbers_in_bounds)
 
 pub bounds-numbers-i : goal.bounds-numbers-i
 bounds-numbers-i c = omega arith
@@ -18,7 +18,7 @@ bounds-numbers-i c = omega arith
 pub put_spaced-next-requires : goal.put_spaced-next-requires
 put_spaced-next-requires c =
     (
-      each_at (λ n. n < decimal_end) c.args.numbers.now c.loop-i.i 0 c.requires.0 c.loop-i-test.true,
+      each_at (λ n. n < decimal_end) c.args.numbers.now c.loop-i.i 0 c.requires.each c.loop-i-test.true,
       piece_room (decimals_pieces c.args.numbers.now) c.loop-i.invariant.1 c.loop-i-test.true,
     )
 

@@ -7,12 +7,12 @@ use Rattle.text.proofs.put_decimals_line.Goals as goal
 
 pub put_decimals-told-requires : goal.put_decimals-told-requires
 put_decimals-told-requires c =
-    (c.requires.0, told_room (c.args.letter ∷ []) (decimals c.args.numbers.now) c.requires.1 c.put-begun.ensures)
+    (c.requires.each, told_room (c.args.letter ∷ []) (decimals c.args.numbers.now) c.requires.numbers_in_bounds c.put-begun.ensures)
 
 pub put-requires : goal.put-requires
 put-requires c =
-    feed_room (c.args.letter ∷ []) (decimals c.args.numbers.now) c.requires.1 c.put-begun.ensures c.put_decimals-told.ensures
+    feed_room (c.args.letter ∷ []) (decimals c.args.numbers.now) c.requires.numbers_in_bounds c.put-begun.ensures c.put_decimals-told.ensures
 
 pub returns : goal.returns
 returns c =
-    line_put (c.args.letter ∷ []) (decimals c.args.numbers.now) c.requires.1 c.put-begun.ensures c.put_decimals-told.ensures c.put.ensures
+    line_put (c.args.letter ∷ []) (decimals c.args.numbers.now) c.requires.numbers_in_bounds c.put-begun.ensures c.put_decimals-told.ensures c.put.ensures

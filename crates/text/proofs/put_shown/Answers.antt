@@ -9,29 +9,23 @@ use Rattle.text.proofs.Laws.Shown.{length_shown_pair}
 use Rattle.text.proofs.Laws.Writing.{Pieces, piece_room, piece_turn, piece_last, shown_pieces}
 use Rattle.text.proofs.put_shown.Goals as goal
 
-abbrev Bytes : tie.At-loop invariant-loop decreases-loop → List ℕ
-Bytes l = l.before.before.before.before.args.bytes.now
-
-abbrev Driven : tie.At-loop invariant-loop decreases-loop → List ℕ
-Driven l = l.before.before.before.before.args.driven.now
-
 pieces : (l : goal.At-loop-i )
     → Pieces (length (Bytes l)) (λ i. shown_pair (get_or (Bytes l) i 0) (get_or (Driven l) i 0)) (λ i. shown_hex (drop i (Bytes l)) (drop i (Driven l)))
-pieces l = shown_pieces (Bytes l) (Driven l) c.requires.0
+pieces l = shown_pieces (Bytes l) (Driven l) c.requires.driven_len
 
 pub loop-i-init : goal.loop-i-init
-loop-i-init c = (omega arith, left_start _ _ _ c.requires.1)
+loop-i-init c = (omega arith, left_start _ _ _ c.requires.driven_in_bounds)
 
 pub bounds-bytes-i : goal.bounds-bytes-i
 bounds-bytes-i c = omega arith
 
 pub bounds-driven-i : goal.bounds-driven-i
-bounds-driven-i c = omega (arith, c.requires.0)
+bounds-driven-i c = omega (arith, c.requires.driven_len)
 
 pub put_shown_pair-next-requires : goal.put_shown_pair-next-requires
 put_shown_pair-next-requires c =
     let room = piece_room (pieces (goal.at.put_shown_pair-next-requires c).At-loop-i) c.loop-i.invariant.1 c.loop-i-test.true in
-    omega (arith, room, length_shown_pair (get_or (Bytes (goal.at.put_shown_pair-next-requires c).At-loop-i) c.loop-i.i 0) (get_or (Driven (goal.at.put_shown_pair-next-requires c).At-loop-i) c.loop-i.i 0))
+    omega (arith, room, length_shown_pair (get_or (c.args.bytes.now) c.loop-i.i 0) (get_or (c.args.driven.now) c.loop-i.i 0))
 
 pub overflow_add-i : goal.overflow_add-i
 overflow_add-i c = omega arith

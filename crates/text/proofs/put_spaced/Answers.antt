@@ -7,4 +7,4 @@ use Rattle.text.proofs.put_spaced.Goals as goal
 
 pub returns : goal.returns
 returns c =
-    both_put (0x20 ∷ []) (decimal c.args.number) c.requires.1 c.put-begun.ensures c.put_decimal.ensures
+    both_put (0x20 ∷ []) (decimal c.args.number) c.requires.number_in_bounds c.put-begun.ensures c.put_decimal.ensures

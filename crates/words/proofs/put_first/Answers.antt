@@ -9,27 +9,28 @@ use Rattle.script.proofs.Laws.Writer.{record_room, record_turn, records_done}
 use Rattle.words.specs.Walk.{word_records}
 use Rattle.words.proofs.put_first.Goals as goal
 
--- all of it is left before the first call
-begun : (c : goal.Start) → Whole c.args.at (encode (word_records (wanted_at c.args.start c.args.wanted.now) false true c.args.address)) c.args.buffer.now
-begun c = left_start _ _ _ c.requires.1
-
 pub put_frame-enabled-requires : goal.put_frame-enabled-requires
 unfolding word_records
-put_frame-enabled-requires c = (omega arith, record_room _ _ (begun (goal.at.put_frame-enabled-requires c).After-shared_slice_known-1))
+put_frame-enabled-requires c =
+    let begun : Whole c.args.at (encode (word_records (wanted_at c.args.start c.args.wanted.now) false true c.args.address)) c.args.buffer.now = left_start _ _ _ c.requires.address_in_bounds in
+    (omega arith, record_room _ _ begun)
 
 pub put_frame-sent-requires : goal.put_frame-sent-requires
 unfolding word_records
 put_frame-sent-requires c =
-    (omega arith, rw (c.wanted_at-odd.ensures, c.wanted_at-even.ensures, c.address_bytes-place.ensures) (record_room _ _ (record_turn _ _ (begun (goal.at.put_frame-sent-requires c).After-shared_slice_known-1) c.put_frame-enabled.ensures)))
+    let begun : Whole c.args.at (encode (word_records (wanted_at c.args.start c.args.wanted.now) false true c.args.address)) c.args.buffer.now = left_start _ _ _ c.requires.address_in_bounds in
+    (omega arith, rw (c.wanted_at-odd.ensures, c.wanted_at-even.ensures, c.address_bytes-place.ensures) (record_room _ _ (record_turn _ _ begun c.put_frame-enabled.ensures)))
 
 pub put_wait-requires : goal.put_wait-requires
 unfolding word_records
 put_wait-requires c =
-    record_room _ _ (record_turn _ _ (record_turn _ _ (begun (goal.at.put_wait-requires c).After-shared_slice_known-1) c.put_frame-enabled.ensures)
+    let begun : Whole c.args.at (encode (word_records (wanted_at c.args.start c.args.wanted.now) false true c.args.address)) c.args.buffer.now = left_start _ _ _ c.requires.address_in_bounds in
+    record_room _ _ (record_turn _ _ (record_turn _ _ begun c.put_frame-enabled.ensures)
     (rw (c.wanted_at-odd.ensures, c.wanted_at-even.ensures, c.address_bytes-place.ensures) at c.put_frame-sent.ensures))
 
 pub returns : goal.returns
 unfolding word_records
 returns c =
-    records_done (record_turn _ _ (record_turn _ _ (record_turn _ _ (begun (goal.at.returns c).After-shared_slice_known-1) c.put_frame-enabled.ensures)
+    let begun : Whole c.args.at (encode (word_records (wanted_at c.args.start c.args.wanted.now) false true c.args.address)) c.args.buffer.now = left_start _ _ _ c.requires.address_in_bounds in
+    records_done (record_turn _ _ (record_turn _ _ (record_turn _ _ begun c.put_frame-enabled.ensures)
     (rw (c.wanted_at-odd.ensures, c.wanted_at-even.ensures, c.address_bytes-place.ensures) at c.put_frame-sent.ensures)) c.put_wait.ensures)

@@ -9,21 +9,21 @@ use Rattle.script.proofs.Laws.Writer.{record_room, record_turn, records_done}
 use Rattle.words.specs.Walk.{word_records}
 use Rattle.words.proofs.put_further.Goals as goal
 
--- all of it is left before the first call
-begun : (c : goal.Start) → Whole c.args.at (encode (word_records (wanted_at c.args.start c.args.wanted.now) true true c.args.address)) c.args.buffer.now
-begun c = left_start _ _ _ c.requires.1
-
 pub put_frame-sent-requires : goal.put_frame-sent-requires
 unfolding word_records
-put_frame-sent-requires c = (omega arith, rw (c.wanted_at-odd.ensures, c.wanted_at-even.ensures) (record_room _ _ (begun (goal.at.put_frame-sent-requires c).Start)))
+put_frame-sent-requires c =
+    let begun : Whole c.args.at (encode (word_records (wanted_at c.args.start c.args.wanted.now) true true c.args.address)) c.args.buffer.now = left_start _ _ _ c.requires.address_in_bounds in
+    (omega arith, rw (c.wanted_at-odd.ensures, c.wanted_at-even.ensures) (record_room _ _ begun))
 
 pub put_wait-requires : goal.put_wait-requires
 unfolding word_records
 put_wait-requires c =
-    record_room _ _ (record_turn _ _ (begun (goal.at.put_wait-requires c).Start) (rw (c.wanted_at-odd.ensures, c.wanted_at-even.ensures) at c.put_frame-sent.ensures))
+    let begun : Whole c.args.at (encode (word_records (wanted_at c.args.start c.args.wanted.now) true true c.args.address)) c.args.buffer.now = left_start _ _ _ c.requires.address_in_bounds in
+    record_room _ _ (record_turn _ _ begun (rw (c.wanted_at-odd.ensures, c.wanted_at-even.ensures) at c.put_frame-sent.ensures))
 
 pub returns : goal.returns
 unfolding word_records
 returns c =
-    records_done (record_turn _ _ (record_turn _ _ (begun (goal.at.returns c).Start)
+    let begun : Whole c.args.at (encode (word_records (wanted_at c.args.start c.args.wanted.now) true true c.args.address)) c.args.buffer.now = left_start _ _ _ c.requires.address_in_bounds in
+    records_done (record_turn _ _ (record_turn _ _ begun
     (rw (c.wanted_at-odd.ensures, c.wanted_at-even.ensures) at c.put_frame-sent.ensures)) c.put_wait.ensures)

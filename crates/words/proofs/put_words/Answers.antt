@@ -17,10 +17,10 @@ pub overflow_mul-address : goal.overflow_mul-address
 overflow_mul-address c = omega arith
 
 pub loop-address-init : goal.loop-address-init
-loop-address-init c = (omega arith, omega arith, left_start _ _ _ (rw (words_start _ _ _ _) at c.requires.1))
+loop-address-init c = (omega arith, omega arith, left_start _ _ _ (rw (words_start _ _ _ _) at c.requires.wanted_in_bounds))
 
 pub word_changes-changes-requires : goal.word_changes-changes-requires
-word_changes-changes-requires c = (c.requires.0, omega arith)
+word_changes-changes-requires c = (c.requires.inside, omega arith)
 
 pub put_word-next-requires : goal.put_word-next-requires
 put_word-next-requires c =
@@ -47,8 +47,10 @@ loop-address-preserved c =
 
 pub put_word-requires : goal.put_word-requires
 put_word-requires c =
-    let l = c.loop-address in
-    (omega arith, left_fits (rw (words_end _ _ _ _ _ l.invariant.0 c.loop-address-test.false) at l.invariant.2))
+    let l = c.loop-address in record {
+      address_bound = omega arith;
+      address_in_bounds = left_fits (rw (words_end _ _ _ _ _ l.invariant.0 c.loop-address-test.false) at l.invariant.2);
+    }
 
 pub shape_of-buffer : goal.shape_of-buffer
 shape_of-buffer c = c.put_word.auto.1.1.1.1.1.0 ∙ c.loop-address.invariant.2.long

@@ -8,12 +8,11 @@ use Rattle.command.specs.Command.{address}
 use borrow.Author.Rules.{rules}
 use Rattle.command.proofs.rows.address_of.Goals as goal
 
-chip : (c : goal.After-wide-3) → Regular c.chip_of-size.result (kind_of c.args.s.chip)
-chip c = rw c.chip_of-size.ensures (regular c.args.s.chip)
-
 pub returns : goal.returns
 unfolding address
-returns c = (
+returns c =
+    let chip : Regular c.chip_of-size.result (kind_of c.args.s.chip) = rw c.chip_of-size.ensures (regular c.args.s.chip) in
+    (
   rw (c.wide-3.ensures.0, c.byte_at-3.ensures, c.wide-2.ensures.0, c.byte_at-2.ensures, c.wide.ensures.0, c.byte_at.ensures, c.chip_of-size.ensures) refl,
-  lt_of_lt_of_le (mod-lt _ (chip c).size_positive) (chip c).size_le_mebibyte,
+  lt_of_lt_of_le (mod-lt _ chip.size_positive) chip.size_le_mebibyte,
 )

@@ -6,7 +6,7 @@ use borrow.Author.Rules.{rules}
 use Rattle.command.proofs.rows.erase_of.Goals as goal
 
 pub returns-then-not-is_writable : goal.returns-then-not-is_writable
-returns-then-not-is_writable c = no _ (sym c.is_writable.ensures ∙ not-true c.is_writable.result c.if-not-is_writable.true) refl
+returns-then-not-is_writable c = no _ (sym c.is_writable.ensures ∙ c.if-not-is_writable.true) refl
 
 pub returns : goal.returns
-returns c = yes _ (sym c.is_writable.ensures ∙ not-false c.is_writable.result c.if-not-is_writable.false) refl
+returns c = yes _ (sym c.is_writable.ensures ∙ c.if-not-is_writable.false) refl

@@ -11,9 +11,6 @@ use Rattle.effect.specs.Effect.{span_of, changed}
 use Rattle.effect.proofs.Laws.Effect.{changed_below, changed_above}
 use Rattle.effect.proofs.change.change_each.Goals as goal
 
-abbrev new : tie.Start invariant-loop decreases-loop → ℕ → ℕ → ℕ
-new c = changed c.args.e c.args.input.now
-
 pub loop-k-init : goal.loop-k-init
 loop-k-init c =
     let l = ap (λ (s : Span). s.lo) c.span_of-span.ensures in
@@ -24,7 +21,7 @@ loop-k-init c =
       omega arith,
       c.requires.2,
       refl,
-      loop_start (new (goal.at.loop-k-init c).Start) c.args.array.now _ (λ k x b. changed_below c.args.e c.args.input.now k x (omega arith)),
+      loop_start ((changed c.args.e c.args.input.now)) c.args.array.now _ (λ k x b. changed_below c.args.e c.args.input.now k x (omega arith)),
     )
 
 pub loop-k-preserved : goal.loop-k-preserved
@@ -36,7 +33,7 @@ loop-k-preserved c =
       i.3,
       i.4,
       simp length-set i.5,
-      rw c.changed_byte.ensures (loop_turn (new (goal.at.loop-k-preserved c).Start) c.args.array.now c.loop-k.array c.loop-k.k (omega arith) i.6),
+      rw c.changed_byte.ensures (loop_turn ((changed c.args.e c.args.input.now)) c.args.array.now c.loop-k.array c.loop-k.k (omega arith) i.6),
     )
 
 pub shape_of-array : goal.shape_of-array
@@ -44,5 +41,5 @@ shape_of-array c = c.loop-k.invariant.5
 
 pub returns : goal.returns
 returns c =
-    loop_end (new (goal.at.returns c).Start) c.args.array.now c.loop-k.array c.loop-k.k
+    loop_end ((changed c.args.e c.args.input.now)) c.args.array.now c.loop-k.array c.loop-k.k
     (λ k x b. changed_above c.args.e c.args.input.now k x (omega arith)) c.loop-k.invariant.6

@@ -24,9 +24,6 @@ cut_at : (e : Effect) (f mask : List ℕ) (k x place : ℕ) → place ≡ mask_p
 unfolding cut
 cut_at e f mask k x place p = rw p refl
 
-abbrev new : tie.Start invariant-loop decreases-loop → ℕ → ℕ → ℕ
-new c = cut c.args.e c.args.input.now c.args.mask.now
-
 pub loop-k-init : goal.loop-k-init
 loop-k-init c =
     let l = ap (λ (s : Span). s.lo) c.span_of-span.ensures in
@@ -39,7 +36,7 @@ loop-k-init c =
       refl,
       omega arith,
       rw l (sym (mask_place_start c.args.e)),
-      loop_start (new (goal.at.loop-k-init c).Start) c.args.array.now _ (λ k x b. cut_below c.args.e c.args.input.now k x c.args.mask.now (omega arith)),
+      loop_start ((cut c.args.e c.args.input.now c.args.mask.now)) c.args.array.now _ (λ k x b. cut_below c.args.e c.args.input.now k x c.args.mask.now (omega arith)),
     )
 
 pub overflow_add-place : goal.overflow_add-place
@@ -50,7 +47,7 @@ loop-k-preserved c =
     let i = c.loop-k.invariant in
     let k = c.loop-k.k in
     let x = get_or c.loop-k.array k 0 in
-    let e : c.cut_byte.result ≡ new (goal.at.loop-k-preserved c).Start k x =
+    let e : c.cut_byte.result ≡ (cut c.args.e c.args.input.now c.args.mask.now) k x =
     rw (c.byte_at.ensures, cut_at c.args.e c.args.input.now c.args.mask.now k x c.loop-k.place i.7)
     at c.cut_byte.ensures in
     let t : bool_byte c.is_touched.result ≡ cond (touches c.args.e k) 1 0 = flag_is c.is_touched.result ∙ ap (λ (b : Bool). cond b 1 0) c.is_touched.ensures in (
@@ -62,7 +59,7 @@ loop-k-preserved c =
       simp length-set i.5,
       omega (arith, t, bit_le (touches c.args.e k) 1),
       rw (count_turn (touches c.args.e) k, t, i.7) refl,
-      rw e (loop_turn (new (goal.at.loop-k-preserved c).Start) c.args.array.now c.loop-k.array k (omega arith) i.8),
+      rw e (loop_turn ((cut c.args.e c.args.input.now c.args.mask.now)) c.args.array.now c.loop-k.array k (omega arith) i.8),
     )
 
 pub shape_of-array : goal.shape_of-array
@@ -70,5 +67,5 @@ shape_of-array c = c.loop-k.invariant.5
 
 pub returns : goal.returns
 returns c =
-    loop_end (new (goal.at.returns c).Start) c.args.array.now c.loop-k.array c.loop-k.k
+    loop_end ((cut c.args.e c.args.input.now c.args.mask.now)) c.args.array.now c.loop-k.array c.loop-k.k
     (λ k x b. cut_above c.args.e c.args.input.now k x c.args.mask.now (omega arith)) c.loop-k.invariant.8

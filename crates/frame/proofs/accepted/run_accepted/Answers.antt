@@ -15,16 +15,14 @@ use Rattle.frame.proofs.Laws.Inside.{effect_inside}
 use borrow.Author.Rules.{rules}
 use Rattle.frame.proofs.accepted.run_accepted.Goals as goal
 
-fit : (c : goal.Start) → Fits c.args.s (command_of c.args.s c.args.wp c.args.input.now)
-fit c = fits c.args.s c.args.wp c.args.input.now c.requires.sound
-
 pub command_of-c-requires : goal.command_of-c-requires
 command_of-c-requires c = let a = c.requires in (next_low _ a.sound, a.short)
 
 pub emit-requires : goal.emit-requires
 emit-requires c =
+    let fit : Fits c.args.s (command_of c.args.s c.args.wp c.args.input.now) = fits c.args.s c.args.wp c.args.input.now c.requires.sound in
     let same = c.requires.same in (
-      rw c.command_of-c.ensures (fit (goal.at.emit-requires c).Start),
+      rw c.command_of-c.ensures fit,
       c.requires.sized,
       omega (arith, c.requires.short, same.output_long),
       same.driven_long ∙ sym same.output_long,
@@ -32,17 +30,20 @@ emit-requires c =
 
 pub change-requires : goal.change-requires
 change-requires c =
+    let fit : Fits c.args.s (command_of c.args.s c.args.wp c.args.input.now) = fits c.args.s c.args.wp c.args.input.now c.requires.sound in
     let a = c.args in
     let e = c.command_of-c.ensures in
     let i : Inside (span_of c.effect_of.result) (data_of a.s).size =
-    rw (c.effect_of.ensures, e) (effect_inside a.s (command_of a.s a.wp a.input.now) (fit (goal.at.change-requires c).Start)) in
+    rw (c.effect_of.ensures, e) (effect_inside a.s (command_of a.s a.wp a.input.now) fit) in
     let d : Supplied c.effect_of.result a.input.now =
     rw (c.effect_of.ensures, e)
     (effect_supplied a.input.now (command_of a.s a.wp a.input.now) (carries a.s a.wp a.input.now)) in
     (i.order, omega (arith, i.within, c.requires.sized), omega (arith, c.requires.sized, (regular a.s.chip).size_le_mebibyte), d)
 
 pub state_after-requires : goal.state_after-requires
-state_after-requires c = rw c.command_of-c.ensures (fit (goal.at.state_after-requires c).Start)
+state_after-requires c =
+    let fit : Fits c.args.s (command_of c.args.s c.args.wp c.args.input.now) = fits c.args.s c.args.wp c.args.input.now c.requires.sound in
+    rw c.command_of-c.ensures (fit)
 
 pub returns : goal.returns
 unfolding ran_device shown_line

@@ -13,16 +13,14 @@ use Rattle.frame.proofs.Laws.Inside.{effect_inside}
 use borrow.Author.Rules.{rules}
 use Rattle.frame.proofs.accepted.run_accepted_cut.Goals as goal
 
-fit : (c : goal.Start) → Fits c.args.s (command_of c.args.s c.args.wp c.args.input.now)
-fit c = fits c.args.s c.args.wp c.args.input.now c.requires.whole.sound
-
 pub command_of-c-requires : goal.command_of-c-requires
 command_of-c-requires c = let a = c.requires.whole in (next_low _ a.sound, a.short)
 
 pub emit-requires : goal.emit-requires
 emit-requires c =
+    let fit : Fits c.args.s (command_of c.args.s c.args.wp c.args.input.now) = fits c.args.s c.args.wp c.args.input.now c.requires.whole.sound in
     let a = c.requires.whole in (
-      rw c.command_of-c.ensures (fit (goal.at.emit-requires c).Start),
+      rw c.command_of-c.ensures fit,
       a.sized,
       omega (arith, a.short, a.same.output_long),
       a.same.driven_long ∙ sym a.same.output_long,
@@ -30,13 +28,16 @@ emit-requires c =
 
 pub cut_change-requires : goal.cut_change-requires
 cut_change-requires c =
+    let fit : Fits c.args.s (command_of c.args.s c.args.wp c.args.input.now) = fits c.args.s c.args.wp c.args.input.now c.requires.whole.sound in
     let a = c.args in
     let i : Inside (span_of c.effect_of.result) (data_of a.s).size =
-    rw (c.effect_of.ensures, c.command_of-c.ensures) (effect_inside a.s (command_of a.s a.wp a.input.now) (fit (goal.at.cut_change-requires c).Start)) in
+    rw (c.effect_of.ensures, c.command_of-c.ensures) (effect_inside a.s (command_of a.s a.wp a.input.now) fit) in
     (i.order, omega (arith, i.within, c.requires.whole.sized), omega (arith, c.requires.whole.sized, (regular a.s.chip).size_le_mebibyte))
 
 pub state_cut-requires : goal.state_cut-requires
-state_cut-requires c = rw c.command_of-c.ensures (fit (goal.at.state_cut-requires c).Start)
+state_cut-requires c =
+    let fit : Fits c.args.s (command_of c.args.s c.args.wp c.args.input.now) = fits c.args.s c.args.wp c.args.input.now c.requires.whole.sound in
+    rw c.command_of-c.ensures (fit)
 
 pub returns : goal.returns
 unfolding torn_device shown_line

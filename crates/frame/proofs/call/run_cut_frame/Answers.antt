@@ -8,16 +8,17 @@ use Rattle.frame.proofs.Laws.Call.{cut_refused, cut_accepted}
 use borrow.Author.Rules.{rules}
 use Rattle.frame.proofs.call.run_cut_frame.Goals as goal
 
-took : (c : goal.Else-number-ne0) → let a = c.args in CutAccepted a.wp a.input.now a.mask.now (device a.s a.array.now) (on_line a.output.now a.driven.now)
-took c = cut_number_accepted _ _ _ _ _ (sym c.cut_number-number.ensures ∙ c.if-number-ne0.false)
-
 pub returns-then-number-ne0 : goal.returns-then-number-ne0
 returns-then-number-ne0 c =
     let e = c.cut_number-number.ensures in
     rw (c.refuse.ensures, e) (cut_refused _ _ _ _ _ (λ z. c.if-number-ne0.true (e ∙ z)))
 
 pub run_accepted_cut-requires : goal.run_accepted_cut-requires
-run_accepted_cut-requires c = took (goal.at.run_accepted_cut-requires c).Else-number-ne0
+run_accepted_cut-requires c =
+    let took : let a = c.args in CutAccepted a.wp a.input.now a.mask.now (device a.s a.array.now) (on_line a.output.now a.driven.now) = cut_number_accepted _ _ _ _ _ (sym c.cut_number-number.ensures ∙ c.if-number-ne0.false) in
+    took
 
 pub returns : goal.returns
-returns c = rw c.grant.ensures (cut_accepted _ _ _ _ _ (took (goal.at.returns c).Else-number-ne0) c.run_accepted_cut.ensures)
+returns c =
+    let took : let a = c.args in CutAccepted a.wp a.input.now a.mask.now (device a.s a.array.now) (on_line a.output.now a.driven.now) = cut_number_accepted _ _ _ _ _ (sym c.cut_number-number.ensures ∙ c.if-number-ne0.false) in
+    rw c.grant.ensures (cut_accepted _ _ _ _ _ took c.run_accepted_cut.ensures)

@@ -15,13 +15,6 @@ use Rattle.listing.proofs.Laws.Frames.{Shown, show_start, frame_inside, frame_dr
 use borrow.Author.Rules.{rules}
 use Rattle.listing.proofs.frames.put_frame_lines.Goals as goal
 
-abbrev Script : tie.At-loop invariant-loop decreases-loop → List ℕ
-Script l = l.before.before.before.before.before.args.script.now
-
--- what the answers tell
-told : (c : goal.After-front_at-found ) → Told (Script c) c.loop-length.at c.front_at-found.result
-told c = front_told (Script c) c.loop-length.at c.front_at-found.result c.front_at-found.ensures
-
 framed : (c : goal.In-Frame )
     → FrameTold (Script c) c.loop-length.at c.in-Frame.start c.in-Frame.length c.in-Frame.next
 framed c = rw c.in-Frame.is at (told c)
@@ -72,4 +65,5 @@ shape_of-text-in_default c = c.loop-length.invariant.lays.long
 
 pub returns-in_default : goal.returns-in_default
 returns-in_default c =
-    show_end c.loop-length.invariant (ended c c.front_at-found.result c.in_default.keys3 (told (goal.at.returns-in_default c).After-front_at-found))
+    let told : Told (c.args.script.now) c.loop-length.at c.front_at-found.result = front_told (c.args.script.now) c.loop-length.at c.front_at-found.result c.front_at-found.ensures in
+    show_end c.loop-length.invariant (ended c c.front_at-found.result c.in_default.keys3 told)

@@ -7,8 +7,10 @@ use borrow.Author.Rules.{rules}
 use Rattle.listing.proofs.refusal.put_refusal.Goals as goal
 
 pub put_decimals_line-requires : goal.put_decimals_line-requires
-put_decimals_line-requires c =
-    ((omega (arith, c.requires.0), (omega (arith, c.requires.1.0), tt)), omega (arith, c.requires.1.1, decimals_line_short 0x52 (c.args.number ∷ c.args.offset ∷ [])))
+put_decimals_line-requires c = record {
+      each = (omega (arith, c.requires.0), (omega (arith, c.requires.1.0), tt));
+      numbers_in_bounds = omega (arith, c.requires.1.1, decimals_line_short 0x52 (c.args.number ∷ c.args.offset ∷ []));
+    }
 
 pub returns-then-carries_offset : goal.returns-then-carries_offset
 returns-then-carries_offset c =
@@ -16,8 +18,10 @@ returns-then-carries_offset c =
     rw t c.put_decimals_line.ensures
 
 pub put_decimals_line-requires-2 : goal.put_decimals_line-requires-2
-put_decimals_line-requires-2 c =
-    ((omega (arith, c.requires.0), tt), omega (arith, c.requires.1.1, decimals_line_short 0x52 (c.args.number ∷ [])))
+put_decimals_line-requires-2 c = record {
+      each = (omega (arith, c.requires.0), tt);
+      numbers_in_bounds = omega (arith, c.requires.1.1, decimals_line_short 0x52 (c.args.number ∷ []));
+    }
 
 pub returns : goal.returns
 returns c =

@@ -23,56 +23,9 @@ use Rattle.namelist.proofs.Laws.Listed.{good_count, counted_good, bad_count, goo
 use Rattle.sectors.specs.Moves.{is_past}
 use Rattle.namechecks.proofs.refusal.list_refusal.Goals as goal
 
--- the book's own, and what comes behind them
-abbrev own : tie.Start → List (ℕ × Bool)
-own c = book_refusals c.args.s (length c.args.array.now) c.args.book (not (is_sector (data_of c.args.s).size c.args.sector))
-
-abbrev names : tie.Start → List (List ℕ)
-names c = names_in (listed c.args.list.now)
-
-abbrev past : tie.Start → Bool
-past c = is_past (is_read c.args.array.now c.args.book) (length (names c))
-
-abbrev later : tie.Start → List (ℕ × Bool)
-later c =
-    (wrong_region, eqb c.args.book c.args.sector)
-    ∷ (wrong_names, is_bad (listed c.args.list.now) || (c.args.moving && past c))
-    ∷ (name_twice, is_twice (names c))
-    ∷ []
-
-number_is : (c : goal.After-book_refusal-number) → first_of (own c) ≡ c.book_refusal-number.result
-number_is c =
-    let a = c.args in
-    sym (c.book_refusal-number.ensures ∙ ap (λ (t : Bool). first_of (book_refusals a.s (length a.array.now) a.book (not t))) c.is_sector.ensures)
-
--- none of the book's own holds
-cleared : (c : goal.Else-number-ne0) → Clear (own c)
-cleared c = clear (own c) refl (number_is c ∙ c.if-number-ne0.false)
-
 behind : (c : goal.Else-number-ne0)
     → first_of (own c ++ later c) ≡ first_of (later c)
 behind c = first_behind (own c) (later c) (cleared c)
-
--- so the book lies in the array
-book_fits : (c : goal.Else-number-ne0) → c.args.book + 512 ≤ length c.args.array.now
-book_fits c =
-    let a = c.args in
-    let none = cleared c in
-    let size : ℕ = (data_of a.s).size in
-    let sized : length a.array.now ≡ size = eqb-true (length a.array.now) size (not-false (eqb (length a.array.now) size) none.1.0) in
-    let here : is_sector size a.book ≡ true =
-    not-false (is_sector size a.book) (or_none_r (not (is_sector size a.sector)) (not (is_sector size a.book)) none.1.1.0) in
-    omega (arith, sized, sector_fits a.s a.book here)
-
--- the list is good, and its names are counted
-good_list : (c : goal.Else-names-gt-MOST_NAMES) → Good c.args.list.now
-good_list c = counted_good c.args.list.now (omega (arith, c.count-names.ensures, c.if-names-gt-MOST_NAMES.false))
-
-counted : (c : goal.Else-names-gt-MOST_NAMES) → c.count-names.result ≡ length (names c)
-counted c = c.count-names.ensures ∙ good_count c.args.list.now (good_list c)
-
-not-bad : (c : goal.Else-names-gt-MOST_NAMES) → is_bad (listed c.args.list.now) ≡ false
-not-bad c = (good_exactly c.args.list.now).only_when (good_list c)
 
 -- and no scene past them is read, where that matters
 names_kept : (c : goal.Joined-moving)
@@ -90,7 +43,9 @@ names_kept c =
 
 pub returns-then-number-ne0 : goal.returns-then-number-ne0
 returns-then-number-ne0 c =
-    sym (first_before (own (goal.at.returns-then-number-ne0 c).Start) (later (goal.at.returns-then-number-ne0 c).Start) c.book_refusal-number.result (omega (arith, c.if-number-ne0.true)) (number_is (goal.at.returns-then-number-ne0 c).After-book_refusal-number))
+    let own : List (ℕ × Bool) = book_refusals c.args.s (length c.args.array.now) c.args.book (not (is_sector (data_of c.args.s).size c.args.sector)) in
+    let number_is : first_of own ≡ c.book_refusal-number.result = let a = c.args in sym (c.book_refusal-number.ensures ∙ ap (λ (t : Bool). first_of (book_refusals a.s (length a.array.now) a.book (not t))) c.is_sector.ensures) in
+    sym (first_before own (((wrong_region, eqb c.args.book c.args.sector) ∷ (wrong_names, is_bad (listed c.args.list.now) || (c.args.moving && (is_past (is_read c.args.array.now c.args.book) (length ((names_in (listed c.args.list.now))))))) ∷ (name_twice, is_twice ((names_in (listed c.args.list.now)))) ∷ [])) c.book_refusal-number.result (omega (arith, c.if-number-ne0.true)) number_is)
 
 pub returns-then-book-sector : goal.returns-then-book-sector
 returns-then-book-sector c = yes _ (eq-eqb _ _ c.if-book-sector.true) refl ∙ sym (behind (goal.at.returns-then-book-sector c).Else-number-ne0)
@@ -99,22 +54,32 @@ pub returns-then-names-gt-MOST_NAMES : goal.returns-then-names-gt-MOST_NAMES
 returns-then-names-gt-MOST_NAMES c =
     let bad : is_bad (listed c.args.list.now) ≡ true =
     bad_count c.args.list.now ∙ lt-ltb 4096 (count_in (listed c.args.list.now)) (omega (arith, c.count-names.ensures, c.if-names-gt-MOST_NAMES.true)) in
-    let wrong : is_bad (listed c.args.list.now) || (c.args.moving && past (goal.at.returns-then-names-gt-MOST_NAMES c).Start) ≡ true = rw bad refl in
+    let wrong : is_bad (listed c.args.list.now) || (c.args.moving && (is_past (is_read c.args.array.now c.args.book) (length ((names_in (listed c.args.list.now)))))) ≡ true = rw bad refl in
     no _ (ne_eqb _ _ c.if-book-sector.false) (yes _ wrong refl) ∙ sym (behind (goal.at.returns-then-names-gt-MOST_NAMES c).Else-number-ne0)
 
 pub is_past-requires : goal.is_past-requires
-is_past-requires c = (book_fits (goal.at.is_past-requires c).Else-number-ne0, omega (arith, c.if-names-gt-MOST_NAMES.false))
+is_past-requires c =
+    let own : List (ℕ × Bool) = book_refusals c.args.s (length c.args.array.now) c.args.book (not (is_sector (data_of c.args.s).size c.args.sector)) in
+    let number_is : first_of own ≡ c.book_refusal-number.result = let a = c.args in sym (c.book_refusal-number.ensures ∙ ap (λ (t : Bool). first_of (book_refusals a.s (length a.array.now) a.book (not t))) c.is_sector.ensures) in
+    let cleared : Clear own = clear own refl (number_is ∙ c.if-number-ne0.false) in
+    let book_fits : c.args.book + 512 ≤ length c.args.array.now = let a = c.args in let none = cleared in let size : ℕ = (data_of a.s).size in let sized : length a.array.now ≡ size = eqb-true (length a.array.now) size (not-false (eqb (length a.array.now) size) none.1.0) in let here : is_sector size a.book ≡ true = not-false (is_sector size a.book) (or_none_r (not (is_sector size a.sector)) (not (is_sector size a.book)) none.1.1.0) in omega (arith, sized, sector_fits a.s a.book here) in
+    (book_fits, omega (arith, c.if-names-gt-MOST_NAMES.false))
 
 pub returns-then-is_past : goal.returns-then-is_past
 returns-then-is_past c =
-    let is-past : past (goal.at.returns-then-is_past c).Start ≡ true =
-    ap (is_past (is_read c.args.array.now c.args.book)) (sym (counted (goal.at.returns-then-is_past c).Else-names-gt-MOST_NAMES)) ∙ sym c.is_past.ensures ∙ c.if-is_past.true in
-    let wrong : is_bad (listed c.args.list.now) || (c.args.moving && past (goal.at.returns-then-is_past c).Start) ≡ true =
-    rw (not-bad (goal.at.returns-then-is_past c).Else-names-gt-MOST_NAMES, c.if-moving.true, is-past) refl in
+    let good_list : Good c.args.list.now = counted_good c.args.list.now (omega (arith, c.count-names.ensures, c.if-names-gt-MOST_NAMES.false)) in
+    let counted : c.count-names.result ≡ length ((names_in (listed c.args.list.now))) = c.count-names.ensures ∙ good_count c.args.list.now good_list in
+    let not-bad : is_bad (listed c.args.list.now) ≡ false = (good_exactly c.args.list.now).only_when good_list in
+    let is-past : (is_past (is_read c.args.array.now c.args.book) (length ((names_in (listed c.args.list.now))))) ≡ true =
+    ap (is_past (is_read c.args.array.now c.args.book)) (sym counted) ∙ sym c.is_past.ensures ∙ c.if-is_past.true in
+    let wrong : is_bad (listed c.args.list.now) || (c.args.moving && (is_past (is_read c.args.array.now c.args.book) (length ((names_in (listed c.args.list.now)))))) ≡ true =
+    rw (not-bad, c.if-moving.true, is-past) refl in
     no _ (ne_eqb _ _ c.if-book-sector.false) (yes _ wrong refl) ∙ sym (behind (goal.at.returns-then-is_past c).Else-number-ne0)
 
 pub has_twice-requires : goal.has_twice-requires
-has_twice-requires c = good_list (goal.at.has_twice-requires c).Else-names-gt-MOST_NAMES
+has_twice-requires c =
+    let good_list : Good c.args.list.now = counted_good c.args.list.now (omega (arith, c.count-names.ensures, c.if-names-gt-MOST_NAMES.false)) in
+    good_list
 
 pub returns-then-has_twice : goal.returns-then-has_twice
 returns-then-has_twice c =

@@ -12,25 +12,20 @@ use Rattle.names.specs.Records.{is_name}
 use borrow.Author.Rules.{rules}
 use Rattle.namechecks.proofs.refusal.name_refusal.Goals as goal
 
--- the book's own, and what comes behind them
-abbrev own : tie.Start → List (ℕ × Bool)
-own c = book_refusals c.args.s c.args.size c.args.sector false
-
-abbrev later : tie.Start → List (ℕ × Bool)
-later c = (wrong_names, not (is_name c.args.name.now)) ∷ []
-
--- none of them holds
-behind : (c : goal.Else-number-ne0) → first_of (own c ++ later c) ≡ first_of (later c)
-behind c =
-    first_behind (own c) (later c) (clear (own c) refl (sym c.book_refusal-number.ensures ∙ c.if-number-ne0.false))
-
 pub returns-then-number-ne0 : goal.returns-then-number-ne0
 returns-then-number-ne0 c =
+    let own : List (ℕ × Bool) = book_refusals c.args.s c.args.size c.args.sector false in
     let number = c.book_refusal-number in
-    sym (first_before (own (goal.at.returns-then-number-ne0 c).Start) (later (goal.at.returns-then-number-ne0 c).Start) number.result (omega (arith, c.if-number-ne0.true)) (sym number.ensures))
+    sym (first_before own (((wrong_names, not (is_name c.args.name.now)) ∷ [])) number.result (omega (arith, c.if-number-ne0.true)) (sym number.ensures))
 
 pub returns-then-not-is_name : goal.returns-then-not-is_name
-returns-then-not-is_name c = yes _ (rw c.is_name.ensures at c.if-not-is_name.true) refl ∙ sym (behind (goal.at.returns-then-not-is_name c).Else-number-ne0)
+returns-then-not-is_name c =
+    let own : List (ℕ × Bool) = book_refusals c.args.s c.args.size c.args.sector false in
+    let behind : first_of (own ++ ((wrong_names, not (is_name c.args.name.now)) ∷ [])) ≡ first_of (((wrong_names, not (is_name c.args.name.now)) ∷ [])) = first_behind own (((wrong_names, not (is_name c.args.name.now)) ∷ [])) (clear own refl (sym c.book_refusal-number.ensures ∙ c.if-number-ne0.false)) in
+    yes _ (rw c.is_name.ensures at c.if-not-is_name.true) refl ∙ sym (behind)
 
 pub returns : goal.returns
-returns c = no _ (rw c.is_name.ensures at c.if-not-is_name.false) refl ∙ sym (behind (goal.at.returns c).Else-number-ne0)
+returns c =
+    let own : List (ℕ × Bool) = book_refusals c.args.s c.args.size c.args.sector false in
+    let behind : first_of (own ++ ((wrong_names, not (is_name c.args.name.now)) ∷ [])) ≡ first_of (((wrong_names, not (is_name c.args.name.now)) ∷ [])) = first_behind own (((wrong_names, not (is_name c.args.name.now)) ∷ [])) (clear own refl (sym c.book_refusal-number.ensures ∙ c.if-number-ne0.false)) in
+    no _ (rw c.is_name.ensures at c.if-not-is_name.false) refl ∙ sym (behind)

@@ -20,13 +20,6 @@ use Rattle.namelist.proofs.Laws.Counted.{
 }
 use Rattle.namelist.proofs.list.count.Goals as goal
 
--- what the first test has shown: there is room for a name, and the name is whole
-room : (c : goal.Else-names-list ) → c.loop-at.names ≡ 4096 → ⊥
-room c =
-    let l = c.loop-at in
-    let left = length c.args.list.now - l.at in
-    eqb-false l.names 4096 (or_none_l (eqb l.names 4096) (leb left c.wide-size.result) c.if-names-list.false)
-
 inside : (c : goal.Else-names-list )
     → c.wide-size.result < length c.args.list.now - c.loop-at.at
 inside c =
@@ -74,12 +67,13 @@ loop-at-smaller c = omega (arith, inside (goal.at.loop-at-smaller c).Else-names-
 
 pub loop-at-preserved : goal.loop-at-preserved
 loop-at-preserved c =
+    let room : c.loop-at.names ≡ 4096 → ⊥ = let l = c.loop-at in let left = length c.args.list.now - l.at in eqb-false l.names 4096 (or_none_l (eqb l.names 4096) (leb left c.wide-size.result) c.if-names-list.false) in
     let list = c.args.list.now in
     let l = c.loop-at in
     let w = c.wide-size in
     let h = c.loop-at-test.true in
     counting_turn list l.at l.names l.invariant h w.result w.ensures.0 (inside (goal.at.loop-at-preserved c).Else-names-list) _ c.name_at-name.ensures
-    (room (goal.at.loop-at-preserved c).Else-names-list) (sym c.is_name.ensures ∙ not-false _ c.if-not-is_name.false)
+    room (sym c.is_name.ensures ∙ not-false _ c.if-not-is_name.false)
 
 pub returns : goal.returns
 returns c = let l = c.loop-at in counting_end c.args.list.now l.at l.names l.invariant c.loop-at-test.false

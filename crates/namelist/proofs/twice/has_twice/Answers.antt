@@ -22,10 +22,6 @@ use Rattle.namelist.proofs.Laws.Comparing.{
 }
 use Rattle.namelist.proofs.twice.has_twice.Goals as goal
 
--- the names passed are at most as many as the prints that can be kept
-room_left : (c : goal.At-loop-at ) → c.loop-at.names ≤ length c.loop-at.prints
-room_left c = comparing_most c.args.list.now c.loop-at.prints c.loop-at.at c.loop-at.names c.loop-at.invariant
-
 pub loop-at-init : goal.loop-at-init
 loop-at-init c = comparing_start c.args.list.now _ c.requires refl
 
@@ -35,12 +31,15 @@ name_at-name-requires c =
     (c.loop-at-test.true, comparing_inside c.args.list.now l.prints l.at l.names l.invariant c.loop-at-test.true)
 
 pub slice_bounds-prints-end : goal.slice_bounds-prints-end
-slice_bounds-prints-end c = room_left (goal.at.slice_bounds-prints-end c).At-loop-at
+slice_bounds-prints-end c =
+    let room_left : c.loop-at.names ≤ length c.loop-at.prints = comparing_most c.args.list.now c.loop-at.prints c.loop-at.at c.loop-at.names c.loop-at.invariant in
+    room_left
 
 pub slice_bounds-has_print-end : goal.slice_bounds-has_print-end
 slice_bounds-has_print-end c =
+    let room_left : c.loop-at.names ≤ length c.loop-at.prints = comparing_most c.args.list.now c.loop-at.prints c.loop-at.at c.loop-at.names c.loop-at.invariant in
     let l = c.loop-at in
-    sym (length-take-le l.names l.prints (room_left (goal.at.slice_bounds-has_print-end c).At-loop-at))
+    sym (length-take-le l.names l.prints room_left)
 
 pub slice_bounds-position_of-end : goal.slice_bounds-position_of-end
 slice_bounds-position_of-end c =

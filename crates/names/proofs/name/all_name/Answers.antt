@@ -9,26 +9,18 @@ use borrow.Author.Tests.{not-true, not-false}
 use Rattle.names.proofs.Laws.Reader.{AllLeft, all_turn, all_bad, all_end, all_last}
 use Rattle.names.proofs.name.all_name.Goals as goal
 
-abbrev Bytes : tie.At-loop invariant-loop decreases-loop → List ℕ
-Bytes l = l.before.before.args.bytes.now
-
--- the first byte of a turn can stand in a name
-second : (c : goal.Else-not-is_name_byte ) → AllLeft (Bytes c) (c.loop-i.i + 1)
-second c =
-    let l = c.loop-i in
-    all_turn (Bytes c) l.i l.invariant (omega arith) (sym c.is_name_byte.ensures ∙ not-false _ c.if-not-is_name_byte.false)
-
 pub loop-i-init : goal.loop-i-init
 loop-i-init c = (omega arith, refl)
 
 pub returns-then-not-is_name_byte : goal.returns-then-not-is_name_byte
 returns-then-not-is_name_byte c =
     let l = c.loop-i in
-    all_bad (Bytes (goal.at.returns-then-not-is_name_byte c).At-loop-i) l.i l.invariant (omega arith) (sym c.is_name_byte.ensures ∙ not-true _ c.if-not-is_name_byte.true)
+    all_bad (c.args.bytes.now) l.i l.invariant (omega arith) (sym c.is_name_byte.ensures ∙ not-true _ c.if-not-is_name_byte.true)
 
 pub returns-then-not-is_name_byte-2 : goal.returns-then-not-is_name_byte-2
 returns-then-not-is_name_byte-2 c =
-    all_bad (Bytes (goal.at.returns-then-not-is_name_byte-2 c).At-loop-i) _ (second (goal.at.returns-then-not-is_name_byte-2 c).Else-not-is_name_byte) (omega arith)
+    let second : AllLeft (c.args.bytes.now) (c.loop-i.i + 1) = let l = c.loop-i in all_turn (c.args.bytes.now) l.i l.invariant (omega arith) (sym c.is_name_byte.ensures ∙ not-false _ c.if-not-is_name_byte.false) in
+    all_bad (c.args.bytes.now) _ second (omega arith)
     (sym c.is_name_byte-in-loop-i.ensures ∙ not-true _ c.if-not-is_name_byte-2.true)
 
 pub loop-i-smaller : goal.loop-i-smaller
@@ -36,16 +28,17 @@ loop-i-smaller c = omega arith
 
 pub loop-i-preserved : goal.loop-i-preserved
 loop-i-preserved c =
+    let second : AllLeft (c.args.bytes.now) (c.loop-i.i + 1) = let l = c.loop-i in all_turn (c.args.bytes.now) l.i l.invariant (omega arith) (sym c.is_name_byte.ensures ∙ not-false _ c.if-not-is_name_byte.false) in
     let i = c.loop-i.i in
     let two : i + 1 + 1 ≡ i + 2 = omega arith in
     rw two
-    at (all_turn (Bytes (goal.at.loop-i-preserved c).At-loop-i) (i + 1) (second (goal.at.loop-i-preserved c).Else-not-is_name_byte) (omega arith)
+    at (all_turn (c.args.bytes.now) (i + 1) second (omega arith)
     (sym c.is_name_byte-in-loop-i.ensures ∙ not-false _ c.if-not-is_name_byte-2.false))
 
 pub returns-then-i-bytes : goal.returns-then-i-bytes
 returns-then-i-bytes c =
     let l = c.loop-i in
-    c.is_name_byte-then-i-bytes.ensures ∙ all_last (Bytes (goal.at.returns-then-i-bytes c).At-loop-i) l.i l.invariant c.if-i-bytes.true (omega arith)
+    c.is_name_byte-then-i-bytes.ensures ∙ all_last (c.args.bytes.now) l.i l.invariant c.if-i-bytes.true (omega arith)
 
 pub returns : goal.returns
-returns c = let l = c.loop-i in all_end (Bytes (goal.at.returns c).At-loop-i) l.i l.invariant c.if-i-bytes.false
+returns c = let l = c.loop-i in all_end (c.args.bytes.now) l.i l.invariant c.if-i-bytes.false

@@ -9,41 +9,53 @@ use Rattle.names.proofs.Laws.Sought.{Sought, sought_start, sought_step, sought_f
 use borrow.Author.Rules.{rules}
 use Rattle.names.proofs.search.find.Goals as goal
 
--- the record of this turn
-step : (c : goal.In-loop-size ) → Step c.args.bytes.now c.loop-size.at c.loop-size.size c.loop-size.invariant.done
-step c = sought_step _ _ _ _ c.loop-size.invariant c.loop-size-test.true
-
 pub loop-size-init : goal.loop-size-init
 loop-size-init c = sought_start _ _ _ c.record_at-size.ensures
 
 pub overflow_add-start : goal.overflow_add-start
-overflow_add-start c = record { fits = omega (arith, (step c).size, (step c).ranges) }
+overflow_add-start c =
+    let step : Step c.args.bytes.now c.loop-size.at c.loop-size.size c.loop-size.invariant.done = sought_step _ _ _ _ c.loop-size.invariant c.loop-size-test.true in
+    record { fits = omega (arith, step.size, step.ranges) }
 
 pub overflow_add-at : goal.overflow_add-at
-overflow_add-at c = record { fits = omega (arith, (step c).ranges) }
+overflow_add-at c =
+    let step : Step c.args.bytes.now c.loop-size.at c.loop-size.size c.loop-size.invariant.done = sought_step _ _ _ _ c.loop-size.invariant c.loop-size-test.true in
+    record { fits = omega (arith, step.ranges) }
 
 pub slice_bounds-same-count : goal.slice_bounds-same-count
-slice_bounds-same-count c = omega (arith, (step c).size)
+slice_bounds-same-count c =
+    let step : Step c.args.bytes.now c.loop-size.at c.loop-size.size c.loop-size.invariant.done = sought_step _ _ _ _ c.loop-size.invariant c.loop-size-test.true in
+    omega (arith, step.size)
 
 pub slice_bounds-same-start : goal.slice_bounds-same-start
-slice_bounds-same-start c = omega (arith, (step c).size)
+slice_bounds-same-start c =
+    let step : Step c.args.bytes.now c.loop-size.at c.loop-size.size c.loop-size.invariant.done = sought_step _ _ _ _ c.loop-size.invariant c.loop-size-test.true in
+    omega (arith, step.size)
 
 pub slice_bounds-same-end : goal.slice_bounds-same-end
-slice_bounds-same-end c = omega (arith, (step c).ranges)
+slice_bounds-same-end c =
+    let step : Step c.args.bytes.now c.loop-size.at c.loop-size.size c.loop-size.invariant.done = sought_step _ _ _ _ c.loop-size.invariant c.loop-size-test.true in
+    omega (arith, step.ranges)
 
 pub returns-then-same : goal.returns-then-same
 returns-then-same c =
-    search_found _ _ _ (sought_found _ _ _ _ c.loop-size.invariant (step (goal.at.returns-then-same c).In-loop-size) (sym c.if-same.true ∙ c.same.ensures ∙ ap (same_bytes _) (step (goal.at.returns-then-same c).In-loop-size).name_is))
+    let step : Step c.args.bytes.now c.loop-size.at c.loop-size.size c.loop-size.invariant.done = sought_step _ _ _ _ c.loop-size.invariant c.loop-size-test.true in
+    search_found _ _ _ (sought_found _ _ _ _ c.loop-size.invariant step (sym c.if-same.true ∙ c.same.ensures ∙ ap (same_bytes _) step.name_is))
 
 pub record_at-size-requires-in-loop-size : goal.record_at-size-requires-in-loop-size
-record_at-size-requires-in-loop-size c = (step (goal.at.record_at-size-requires-in-loop-size c).In-loop-size).fits
+record_at-size-requires-in-loop-size c =
+    let step : Step c.args.bytes.now c.loop-size.at c.loop-size.size c.loop-size.invariant.done = sought_step _ _ _ _ c.loop-size.invariant c.loop-size-test.true in
+    step.fits
 
 pub loop-size-smaller : goal.loop-size-smaller
-loop-size-smaller c = omega (arith, (step (goal.at.loop-size-smaller c).In-loop-size).size, (step (goal.at.loop-size-smaller c).In-loop-size).ranges)
+loop-size-smaller c =
+    let step : Step c.args.bytes.now c.loop-size.at c.loop-size.size c.loop-size.invariant.done = sought_step _ _ _ _ c.loop-size.invariant c.loop-size-test.true in
+    omega (arith, step.size, step.ranges)
 
 pub loop-size-preserved : goal.loop-size-preserved
 loop-size-preserved c =
-    sought_turn _ _ _ _ c.loop-size.invariant (step (goal.at.loop-size-preserved c).In-loop-size) _ (sym c.if-same.false ∙ c.same.ensures ∙ ap (same_bytes _) (step (goal.at.loop-size-preserved c).In-loop-size).name_is) c.record_at-size-in-loop-size.ensures
+    let step : Step c.args.bytes.now c.loop-size.at c.loop-size.size c.loop-size.invariant.done = sought_step _ _ _ _ c.loop-size.invariant c.loop-size-test.true in
+    sought_turn _ _ _ _ c.loop-size.invariant step _ (sym c.if-same.false ∙ c.same.ensures ∙ ap (same_bytes _) step.name_is) c.record_at-size-in-loop-size.ensures
 
 pub returns : goal.returns
 returns c = sought_end _ _ _ _ c.loop-size.invariant c.loop-size-test.false

@@ -19,13 +19,6 @@ use Rattle.run.proofs.Laws.Walk.{Walked, walk_start, frame_room, frame_driven_ro
 use borrow.Author.Rules.{rules}
 use Rattle.run.proofs.records.run_records.Goals as goal
 
-abbrev Script : tie.At-loop invariant-loop decreases-loop → List ℕ
-Script l = l.before.before.before.before.before.args.script.now
-
--- what the answers tell
-told : (c : goal.After-front_at-found ) → Told (Script c) c.loop-start.at c.front_at-found.result
-told c = front_told (Script c) c.loop-start.at c.front_at-found.result c.front_at-found.ensures
-
 framed : (c : goal.In-Frame )
     → FrameTold (Script c) c.loop-start.at
     c.in-Frame.start c.in-Frame.length c.in-Frame.next
@@ -93,6 +86,7 @@ shape_of-driven-in_default c = let told = c.loop-start.invariant in told.1.long.
 
 pub returns-in_default : goal.returns-in_default
 returns-in_default c =
-    let t = ended c c.front_at-found.result c.in_default.keys3 (told (goal.at.returns-in_default c).After-front_at-found) in
+    let told : Told (c.args.script.now) c.loop-start.at c.front_at-found.result = front_told (c.args.script.now) c.loop-start.at c.front_at-found.result c.front_at-found.ensures in
+    let t = ended c c.front_at-found.result c.in_default.keys3 told in
     let e = walk_end c.loop-start.invariant.1 t in
     record { device_is = e.0; line_is = e.1 }

@@ -14,7 +14,7 @@ kept_here : (c : goal.Else-record-eq0 )
 kept_here c = kept_at _ _ _ c.record_at-record.ensures c.if-record-eq0.false
 
 pub loop-at-init : goal.loop-at-init
-loop-at-init c = laying_start _ _ _ c.requires.0.1 c.requires.1
+loop-at-init c = laying_start _ _ _ c.requires.bytes_len_bound.1 c.requires.bytes_in_bounds
 
 pub record_at-record-requires : goal.record_at-record-requires
 record_at-record-requires c = c.loop-at.invariant.inside
@@ -28,7 +28,7 @@ overflow_sub-end c = omega (arith, c.stretch_end-end.ensures.onward)
 pub put_stretch-listed-requires : goal.put_stretch-listed-requires
 put_stretch-listed-requires c =
     let s = c.stretch_end-end.ensures in
-    let b = c.requires.0.0 in
+    let b = c.requires.bytes_len_bound.0 in
     (omega (arith, s.onward, s.inside, b), omega (arith, s.inside, b), entry_room _ _ _ _ _ _ _ _ _ s c.loop-at.invariant)
 
 pub loop-at-smaller-then-record-eq0 : goal.loop-at-smaller-then-record-eq0

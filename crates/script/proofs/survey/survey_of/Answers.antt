@@ -11,13 +11,6 @@ use Rattle.script.proofs.Laws.Answers.{Stands, FrameTold, Told, front_told}
 use Rattle.script.proofs.Laws.Survey.{survey_long, Counted, count_start, count_frame, count_wait, count_end, count_refused}
 use Rattle.script.proofs.survey.survey_of.Goals as goal
 
-abbrev Script : tie.At-loop invariant-loop decreases-loop → List ℕ
-Script l = l.before.before.before.args.script.now
-
--- what the answers tell
-told : (c : goal.After-front_at-found ) → Told (Script c) c.loop-length.at c.front_at-found.result
-told c = front_told (Script c) c.loop-length.at c.front_at-found.result c.front_at-found.ensures
-
 framed : (c : goal.In-Frame )
     → FrameTold (Script c) c.loop-length.at
     c.in-Frame.start c.in-Frame.length c.in-Frame.next
@@ -51,11 +44,13 @@ loop-length-preserved c = count_wait (omega arith) (waited c) c.loop-length.inva
 
 pub returns-in-End : goal.returns-in-End
 returns-in-End c =
-    let t = rw c.in-End.is at (told (goal.at.returns-in-End c).After-front_at-found) in
+    let told : Told (c.args.script.now) c.loop-length.at c.front_at-found.result = front_told (c.args.script.now) c.loop-length.at c.front_at-found.result c.front_at-found.ensures in
+    let t = rw c.in-End.is at told in
     c.counted_survey.ensures ∙ count_end t.1 c.loop-length.invariant
 
 pub returns-in-Refused : goal.returns-in-Refused
 returns-in-Refused c =
+    let told : Told (c.args.script.now) c.loop-length.at c.front_at-found.result = front_told (c.args.script.now) c.loop-length.at c.front_at-found.result c.front_at-found.ensures in
     let k = c.loop-length.invariant in
-    let t = rw c.in-Refused.is at (told (goal.at.returns-in-Refused c).After-front_at-found) in
+    let t = rw c.in-Refused.is at told in
     c.refused_survey-in-Refused.ensures ∙ rw t.0 (count_refused t.1 k)

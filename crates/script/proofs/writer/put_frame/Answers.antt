@@ -5,18 +5,20 @@ use Rattle.script.specs.Record.{frame, encode_record, frame_head}
 use Rattle.common.proofs.Laws.Buffer.{Whole, left_start, left_room, left_turn, left_fits, left_last}
 use Rattle.script.proofs.writer.put_frame.Goals as goal
 
--- all of it is left before the first call
-begun : (c : goal.Start) → Whole c.args.at (encode_record (frame c.args.bytes.now)) c.args.buffer.now
-begun c = left_start _ _ _ c.requires.1
-
 pub put_head-headed-requires : goal.put_head-headed-requires
 unfolding encode_record
-put_head-headed-requires c = (c.requires.0, left_room (frame_head (length c.args.bytes.now)) c.args.bytes.now (begun (goal.at.put_head-headed-requires c).Start))
+put_head-headed-requires c =
+    let begun : Whole c.args.at (encode_record (frame c.args.bytes.now)) c.args.buffer.now = left_start _ _ _ c.requires.bytes_in_bounds in
+    (c.requires.bytes_len_bound, left_room (frame_head (length c.args.bytes.now)) c.args.bytes.now begun)
 
 pub put-requires : goal.put-requires
 unfolding encode_record
-put-requires c = left_fits (left_turn (frame_head (length c.args.bytes.now)) c.args.bytes.now (begun (goal.at.put-requires c).Start) c.put_head-headed.ensures)
+put-requires c =
+    let begun : Whole c.args.at (encode_record (frame c.args.bytes.now)) c.args.buffer.now = left_start _ _ _ c.requires.bytes_in_bounds in
+    left_fits (left_turn (frame_head (length c.args.bytes.now)) c.args.bytes.now begun c.put_head-headed.ensures)
 
 pub returns : goal.returns
 unfolding encode_record
-returns c = left_last (left_turn (frame_head (length c.args.bytes.now)) c.args.bytes.now (begun (goal.at.returns c).Start) c.put_head-headed.ensures) c.put.ensures
+returns c =
+    let begun : Whole c.args.at (encode_record (frame c.args.bytes.now)) c.args.buffer.now = left_start _ _ _ c.requires.bytes_in_bounds in
+    left_last (left_turn (frame_head (length c.args.bytes.now)) c.args.bytes.now begun c.put_head-headed.ensures) c.put.ensures

@@ -11,13 +11,6 @@ use Rattle.namelist.proofs.Laws.Listed.{good_count}
 use Rattle.sectors.proofs.Laws.Returning.{Returning, returning_start, returning_step, returning_marked, returning_counted, returning_used, returning_count}
 use Rattle.sectors.proofs.returning.mark_listed.Goals as goal
 
--- how many names the list has
-counted : (c : goal.After-count-names ) → c.count-names.result ≡ length (names_in (listed c.args.list.now))
-counted c = c.count-names.ensures ∙ good_count c.args.list.now c.requires.1
-
-few : (c : goal.After-count-names ) → c.count-names.result ≤ 4096
-few c = omega (arith, counted c, c.requires.1.at_most)
-
 -- the record of this turn
 step : (c : goal.In-loop-size )
     → Step c.args.image.now c.loop-size.at c.loop-size.size c.loop-size.invariant.done
@@ -45,10 +38,16 @@ pub position_of-scene-requires : goal.position_of-scene-requires
 position_of-scene-requires c = c.requires.1
 
 pub overflow_cast-scene : goal.overflow_cast-scene
-overflow_cast-scene c = omega (arith, c.if-scene-names.true, few (goal.at.overflow_cast-scene c).After-count-names)
+overflow_cast-scene c =
+    let counted : c.count-names.result ≡ length (names_in (listed c.args.list.now)) = c.count-names.ensures ∙ good_count c.args.list.now c.requires.1 in
+    let few : c.count-names.result ≤ 4096 = omega (arith, counted, c.requires.1.at_most) in
+    omega (arith, c.if-scene-names.true, few)
 
 pub mark_scene-requires : goal.mark_scene-requires
-mark_scene-requires c = omega (arith, c.if-scene-names.true, few (goal.at.mark_scene-requires c).After-count-names)
+mark_scene-requires c =
+    let counted : c.count-names.result ≡ length (names_in (listed c.args.list.now)) = c.count-names.ensures ∙ good_count c.args.list.now c.requires.1 in
+    let few : c.count-names.result ≤ 4096 = omega (arith, counted, c.requires.1.at_most) in
+    omega (arith, c.if-scene-names.true, few)
 
 pub overflow_add-unlisted : goal.overflow_add-unlisted
 overflow_add-unlisted c =
@@ -62,8 +61,9 @@ loop-size-smaller c = omega (arith, (step (goal.at.loop-size-smaller c).In-loop-
 
 pub loop-size-preserved : goal.loop-size-preserved
 loop-size-preserved c =
+    let counted : c.count-names.result ≡ length (names_in (listed c.args.list.now)) = c.count-names.ensures ∙ good_count c.args.list.now c.requires.1 in
     let place = c.position_of-scene in
-    let names = counted (goal.at.loop-size-preserved c).After-count-names in
+    let names = counted in
     ⊎_elim
     (λ w. rw (w.3 ∙ w.2.ensures, w.4)
     (returning_marked _ _ _ _ _ _ _ c.loop-size.invariant (step (goal.at.loop-size-preserved c).In-loop-size) _ _ place.ensures c.record_at-size-in-loop-size.ensures (omega (arith, w.0.taken, names))))

@@ -23,52 +23,49 @@ returns-then-not-s c =
     (λ z. of_running s (λ a. absurd (true≢false (sym a ∙ off))) (λ _. eqb-true s.next 0 z))
     (λ z. or_none_i off z)
 
--- past the first test
-on : (c : goal.Else-not-s) → c.args.s.aai ≡ true
-on c = not-false c.args.s.aai c.if-not-s.false
-
 pub returns-then-not-s-2 : goal.returns-then-not-s-2
-returns-then-not-s-2 c = let s = c.args.s in fails_at 1 (aai_clauses s) (denied (on (goal.at.returns-then-not-s-2 c).Else-not-s) (not-true s.wel c.if-not-s-2.true))
+returns-then-not-s-2 c =
+    let on : c.args.s.aai ≡ true = not-false c.args.s.aai c.if-not-s.false in
+    let s = c.args.s in fails_at 1 (aai_clauses s) (denied on (not-true s.wel c.if-not-s-2.true))
 
 pub returns-then-s : goal.returns-then-s
-returns-then-s c = let s = c.args.s in fails_at 2 (aai_clauses s) (denied (on (goal.at.returns-then-s c).Else-not-s) (ap not c.if-s.true))
+returns-then-s c =
+    let on : c.args.s.aai ≡ true = not-false c.args.s.aai c.if-not-s.false in
+    let s = c.args.s in fails_at 2 (aai_clauses s) (denied on (ap not c.if-s.true))
 
 pub returns-then-s-gt7 : goal.returns-then-s-gt7
-returns-then-s-gt7 c = let s = c.args.s in fails_at 3 (aai_clauses s) (denied (on (goal.at.returns-then-s-gt7 c).Else-not-s) (lt-leb s.left 7 c.if-s-gt7.true))
+returns-then-s-gt7 c =
+    let on : c.args.s.aai ≡ true = not-false c.args.s.aai c.if-not-s.false in
+    let s = c.args.s in fails_at 3 (aai_clauses s) (denied on (lt-leb s.left 7 c.if-s-gt7.true))
 
 pub returns-then-s-ne0 : goal.returns-then-s-ne0
-returns-then-s-ne0 c = let s = c.args.s in fails_at 4 (aai_clauses s) (denied (on (goal.at.returns-then-s-ne0 c).Else-not-s) (ne_eqb (s.next % 2) 0 c.if-s-ne0.true))
+returns-then-s-ne0 c =
+    let on : c.args.s.aai ≡ true = not-false c.args.s.aai c.if-not-s.false in
+    let s = c.args.s in fails_at 4 (aai_clauses s) (denied on (ne_eqb (s.next % 2) 0 c.if-s-ne0.true))
 
 pub returns-then-s-lt2 : goal.returns-then-s-lt2
-returns-then-s-lt2 c = let s = c.args.s in fails_at 5 (aai_clauses s) (denied (on (goal.at.returns-then-s-lt2 c).Else-not-s) (lt-leb 2 s.next c.if-s-lt2.true))
+returns-then-s-lt2 c =
+    let on : c.args.s.aai ≡ true = not-false c.args.s.aai c.if-not-s.false in
+    let s = c.args.s in fails_at 5 (aai_clauses s) (denied on (lt-leb 2 s.next c.if-s-lt2.true))
 
 pub returns-then-first-s : goal.returns-then-first-s
-returns-then-first-s c = let s = c.args.s in fails_at 6 (aai_clauses s) (denied (on (goal.at.returns-then-first-s c).Else-not-s) (lt-leb s.next (first_protected s) (rw c.first_protected-first.ensures at c.if-first-s.true)))
-
--- ---- all but the last clause tested
-abbrev state_at : tie.Else7 → State
-state_at c = c.before.before.before.before.before.before.before.before.before.before.before.before.before.before.args.s
-
-running : (c : goal.Else-first-s) → ((state_at c).left ≡ 0 → (state_at c).next < first_protected (state_at c)) → Each Holds (aai_clauses (state_at c))
-running c below =
-    of_running (state_at c)
-    (λ _. record {
-      enabled = not-false (state_at c).wel c.if-not-s-2.false;
-      disarmed = c.if-s.false;
-      left_le_7 = c.if-s-gt7.false;
-      next_even = c.if-s-ne0.false;
-      next_ge_2 = c.if-s-lt2.false;
-      next_le_first = rw c.first_protected-first.ensures at c.if-first-s.false;
-      next_lt_first = below;
-    })
-    (λ a. absurd (true≢false (sym (on c) ∙ a)))
+returns-then-first-s c =
+    let on : c.args.s.aai ≡ true = not-false c.args.s.aai c.if-not-s.false in
+    let s = c.args.s in fails_at 6 (aai_clauses s) (denied on (lt-leb s.next (first_protected s) (rw c.first_protected-first.ensures at c.if-first-s.true)))
 
 pub returns-then-s-gt0 : goal.returns-then-s-gt0
-returns-then-s-gt0 c = let s = state_at (goal.at.returns-then-s-gt0 c).Else-first-s in sym (all_each (aai_clauses s) (running (goal.at.returns-then-s-gt0 c).Else-first-s (λ z. absurd (omega (arith, c.if-s-gt0.true)))))
+returns-then-s-gt0 c =
+    let state_at : State = c.args.s in
+    let on : c.args.s.aai ≡ true = not-false c.args.s.aai c.if-not-s.false in
+    let running : (state_at.left ≡ 0 → state_at.next < first_protected state_at) → Each Holds (aai_clauses state_at) = λ below. of_running state_at (λ _. record { enabled = not-false state_at.wel c.if-not-s-2.false; disarmed = c.if-s.false; left_le_7 = c.if-s-gt7.false; next_even = c.if-s-ne0.false; next_ge_2 = c.if-s-lt2.false; next_le_first = rw c.first_protected-first.ensures at c.if-first-s.false; next_lt_first = below; }) (λ a. absurd (true≢false (sym on ∙ a))) in
+    let s = state_at in sym (all_each (aai_clauses s) (running (λ z. absurd (omega (arith, c.if-s-gt0.true)))))
 
 pub returns : goal.returns
 returns c =
-    let s = state_at (goal.at.returns c).Else-first-s in
+    let state_at : State = c.args.s in
+    let on : c.args.s.aai ≡ true = not-false c.args.s.aai c.if-not-s.false in
+    let running : (state_at.left ≡ 0 → state_at.next < first_protected state_at) → Each Holds (aai_clauses state_at) = λ below. of_running state_at (λ _. record { enabled = not-false state_at.wel c.if-not-s-2.false; disarmed = c.if-s.false; left_le_7 = c.if-s-gt7.false; next_even = c.if-s-ne0.false; next_ge_2 = c.if-s-lt2.false; next_le_first = rw c.first_protected-first.ensures at c.if-first-s.false; next_lt_first = below; }) (λ a. absurd (true≢false (sym on ∙ a))) in
+    let s = state_at in
     rw c.first_protected-first.ensures (decides_at 7 (aai_clauses s) (ltb s.next (first_protected s))
-    (λ l. running (goal.at.returns c).Else-first-s (λ _. ltb-true s.next (first_protected s) l))
-    (λ l. denied (on (goal.at.returns c).Else-not-s) (or_none_i (le-ltb 0 s.left c.if-s-gt0.false) l)))
+    (λ l. running (λ _. ltb-true s.next (first_protected s) l))
+    (λ l. denied on (or_none_i (le-ltb 0 s.left c.if-s-gt0.false) l)))

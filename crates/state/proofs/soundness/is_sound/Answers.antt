@@ -11,24 +11,22 @@ pub returns-then-not-registers_sound : goal.returns-then-not-registers_sound
 unfolding is_sound
 returns-then-not-registers_sound c =
     let s = c.args.s in
-    let fails = sym c.registers_sound.ensures ∙ not-true c.registers_sound.result c.if-not-registers_sound.true in
+    let fails = sym c.registers_sound.ensures ∙ c.if-not-registers_sound.true in
     sym (and_none (all_of (register_clauses s) && all_of (aai_clauses s)) (all_of (pending_clauses s)) (and_none (all_of (register_clauses s)) (all_of (aai_clauses s)) fails))
-
--- past the registers' clauses
-registers : (c : goal.Else-not-registers_sound) → all_of (register_clauses c.args.s) ≡ true
-registers c = sym c.registers_sound.ensures ∙ not-false c.registers_sound.result c.if-not-registers_sound.false
 
 pub returns-then-not-aai_sound : goal.returns-then-not-aai_sound
 unfolding is_sound
 returns-then-not-aai_sound c =
+    let registers : all_of (register_clauses c.args.s) ≡ true = sym c.registers_sound.ensures ∙ c.if-not-registers_sound.false in
     let s = c.args.s in
-    let fails = sym c.aai_sound.ensures ∙ not-true c.aai_sound.result c.if-not-aai_sound.true in
-    sym (and_none (all_of (register_clauses s) && all_of (aai_clauses s)) (all_of (pending_clauses s)) (and_on (all_of (register_clauses s)) (all_of (aai_clauses s)) (registers (goal.at.returns-then-not-aai_sound c).Else-not-registers_sound) ∙ fails))
+    let fails = sym c.aai_sound.ensures ∙ c.if-not-aai_sound.true in
+    sym (and_none (all_of (register_clauses s) && all_of (aai_clauses s)) (all_of (pending_clauses s)) (and_on (all_of (register_clauses s)) (all_of (aai_clauses s)) registers ∙ fails))
 
 pub returns : goal.returns
 unfolding is_sound
 returns c =
+    let registers : all_of (register_clauses c.args.s) ≡ true = sym c.registers_sound.ensures ∙ c.if-not-registers_sound.false in
     let s = c.args.s in
-    let aai = sym c.aai_sound.ensures ∙ not-false c.aai_sound.result c.if-not-aai_sound.false in
+    let aai = sym c.aai_sound.ensures ∙ c.if-not-aai_sound.false in
     c.pending_sound.ensures
-    ∙ sym (and_on (all_of (register_clauses s) && all_of (aai_clauses s)) (all_of (pending_clauses s)) (and_i (registers (goal.at.returns c).Else-not-registers_sound) aai))
+    ∙ sym (and_on (all_of (register_clauses s) && all_of (aai_clauses s)) (all_of (pending_clauses s)) (and_i registers aai))

@@ -21,20 +21,20 @@ returns-then-not-s c =
     (λ z. let none = eqb-true s.pending_bits 0 z in of_writing s (λ p. absurd (true≢false (sym p ∙ off))) (λ _. none) (rw none refl))
     (λ z. or_none_i off z)
 
--- past the first test
-on : (c : goal.Else-not-s) → c.args.s.pending ≡ true
-on c = not-false c.args.s.pending c.if-not-s.false
-
 pub returns-then-s-eq0 : goal.returns-then-s-eq0
-returns-then-s-eq0 c = let s = c.args.s in fails_at 0 (pending_clauses s) (denied (on (goal.at.returns-then-s-eq0 c).Else-not-s) (le-ltb 0 s.left (omega (arith, c.if-s-eq0.true))))
+returns-then-s-eq0 c =
+    let on : c.args.s.pending ≡ true = not-false c.args.s.pending c.if-not-s.false in
+    let s = c.args.s in fails_at 0 (pending_clauses s) (denied on (le-ltb 0 s.left (omega (arith, c.if-s-eq0.true))))
 
 pub returns-then-chip_of-eq0 : goal.returns-then-chip_of-eq0
 returns-then-chip_of-eq0 c =
+    let on : c.args.s.pending ≡ true = not-false c.args.s.pending c.if-not-s.false in
     let s = c.args.s in
-    fails_at 1 (pending_clauses s) (denied (on (goal.at.returns-then-chip_of-eq0 c).Else-not-s) (le-ltb 0 (data_of s).status_time (omega (arith, rw c.chip_of.ensures at c.if-chip_of-eq0.true))))
+    fails_at 1 (pending_clauses s) (denied on (le-ltb 0 (data_of s).status_time (omega (arith, rw c.chip_of.ensures at c.if-chip_of-eq0.true))))
 
 pub returns : goal.returns
 returns c =
+    let on : c.args.s.pending ≡ true = not-false c.args.s.pending c.if-not-s.false in
     let s = c.args.s in
     rw c.writable_bits.ensures
     (decides_at 3 (pending_clauses s) (eqb s.pending_bits (writable_bits s.pending_bits))
@@ -43,6 +43,6 @@ returns c =
       busy = omega (arith, c.if-s-eq0.false);
       takes_time = omega (arith, rw c.chip_of.ensures at c.if-chip_of-eq0.false);
     })
-    (λ o. absurd (true≢false (sym (on (goal.at.returns c).Else-not-s) ∙ o)))
+    (λ o. absurd (true≢false (sym on ∙ o)))
     (eqb-true s.pending_bits (writable_bits s.pending_bits) e))
     (λ e. e))

@@ -15,7 +15,7 @@ use borrow.Author.Rules.{rules}
 use Rattle.state.proofs.soundness.registers_sound.Goals as goal
 
 pub returns-then-not-is_known : goal.returns-then-not-is_known
-returns-then-not-is_known c = let s = c.args.s in fails_at 0 (register_clauses s) (sym c.is_known.ensures ∙ not-true c.is_known.result c.if-not-is_known.true)
+returns-then-not-is_known c = let s = c.args.s in fails_at 0 (register_clauses s) (sym c.is_known.ensures ∙ c.if-not-is_known.true)
 
 pub returns-then-s-gt7 : goal.returns-then-s-gt7
 returns-then-s-gt7 c = let s = c.args.s in fails_at 1 (register_clauses s) (lt-leb s.bp 7 c.if-s-gt7.true)
@@ -41,33 +41,17 @@ returns-then-s-chip-2 c = let s = c.args.s in fails_at 9 (register_clauses s) (i
 pub returns-then-s-chip-3 : goal.returns-then-s-chip-3
 returns-then-s-chip-3 c = let s = c.args.s in fails_at 10 (register_clauses s) (implies_fails s.aai (data_of s).aai (rw c.chip_of-chip.ensures at c.if-s-chip-3.true))
 
--- ---- behind the branches that meet again: the state, and what each branch has shown of it
-abbrev state_at : tie.Joined3 → State
-state_at c = c.before.before.before.before.before.before.before.args.s
-
-left-short : (c : goal.Joined-s-gt0) → (state_at c).left ≤ (data_of (state_at c)).chip_time
-left-short c = ⊎_elim (λ w. rw c.chip_of-chip.ensures at w.3.left) (λ w. omega arith) c.if-s-gt0.branch
-
-while_busy : (c : goal.Joined-s-gt0) → 0 < (state_at c).left → Busy (state_at c)
-while_busy c h = ⊎_elim (λ w. busy_holds (state_at c) w.7.left) (λ w. absurd (omega arith)) c.if-s-gt0.branch
-
-armed_awake : (c : goal.Joined-s-2) → (state_at c).armed ≡ true → (state_at c).power_down ≡ false
-armed_awake c a = ⊎_elim (λ w. w.1.left) (λ w. absurd (true≢false (sym a ∙ w.left))) c.if-s-2.branch
-
-armed_enabled : (c : goal.Joined-s-2) → (data_of (state_at c)).ewsr ≡ false → (state_at c).armed ≡ true → (state_at c).wel ≡ true
-armed_enabled c e a =
-    let s = state_at c in
-    ⊎_elim
-    (λ w. or_imp (data_of s).ewsr s.wel (not-false ((data_of s).ewsr || s.wel) (rw c.chip_of-chip.ensures at w.4.left)) e)
-    (λ w. absurd (true≢false (sym a ∙ w.left)))
-    c.if-s-2.branch
-
 pub returns : goal.returns
 returns c =
-    let s = state_at (goal.at.returns c).Joined-s-gt0 in
+    let state_at : State = c.args.s in
+    let left-short : state_at.left ≤ (data_of state_at).chip_time = ⊎_elim (λ w. rw c.chip_of-chip.ensures at w.3.left) (λ w. omega arith) c.if-s-gt0.branch in
+    let while_busy : 0 < state_at.left → Busy state_at = λ h. ⊎_elim (λ w. busy_holds state_at w.7.left) (λ w. absurd (omega arith)) c.if-s-gt0.branch in
+    let armed_awake : state_at.armed ≡ true → state_at.power_down ≡ false = λ a. ⊎_elim (λ w. w.1.left) (λ w. absurd (true≢false (sym a ∙ w.left))) c.if-s-2.branch in
+    let armed_enabled : (data_of state_at).ewsr ≡ false → state_at.armed ≡ true → state_at.wel ≡ true = λ e a. let s = state_at in ⊎_elim (λ w. or_imp (data_of s).ewsr s.wel (not-false ((data_of s).ewsr || s.wel) (rw c.chip_of-chip.ensures at w.4.left)) e) (λ w. absurd (true≢false (sym a ∙ w.left))) c.if-s-2.branch in
+    let s = state_at in
     let chip = c.chip_of-chip.ensures in
-    let known = sym c.is_known.ensures ∙ not-false c.is_known.result c.if-not-is_known.false in
-    sym (of_registers s known c.if-s-gt7.false (left-short (goal.at.returns c).Joined-s-gt0) (while_busy (goal.at.returns c).Joined-s-gt0) (armed_awake (goal.at.returns c).Joined-s-2) (armed_enabled (goal.at.returns c).Joined-s-2)
+    let known = sym c.is_known.ensures ∙ c.if-not-is_known.false in
+    sym (of_registers s known c.if-s-gt7.false left-short while_busy armed_awake armed_enabled
     (implies_holds s.tb (data_of s).top_bottom (rw chip at c.if-s-chip.false))
     (implies_holds s.power_down (data_of s).sleeps (rw chip at c.if-s-chip-2.false))
     (implies_holds s.aai (data_of s).aai (rw chip at c.if-s-chip-3.false)))
