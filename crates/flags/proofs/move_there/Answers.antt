@@ -51,12 +51,12 @@ lay_move-requires c =
 pub returns-then-not-lay_move : goal.returns-then-not-lay_move
 returns-then-not-lay_move c =
     let clear : let a = c.args in first_of (list_refusals a.s a.array.now a.book a.sector a.list.now true) ≡ 0 = sym c.list_refusal-number.ensures ∙ c.if-number-ne0.false in
-    let over = not-false (are_too_long ((let a = c.args in moved_names a.array.now a.book a.list.now))) (sym c.lay_move.ensures.fits_is ∙ not-true _ c.if-not-lay_move.true) in
+    let over = not-false (are_too_long ((let a = c.args in moved_names a.array.now a.book a.list.now))) (sym c.lay_move.ensures.fits_is ∙ c.if-not-lay_move.true) in
     rw c.refuse_plan-then-not-lay_move.ensures (moves-refused _ _ _ _ _ _ _ _ (omega arith) (move-full _ _ _ _ _ clear over))
 
 pub slice_bounds-plan_update-end : goal.slice_bounds-plan_update-end
 slice_bounds-plan_update-end c =
-    let fits : are_too_long ((let a = c.args in moved_names a.array.now a.book a.list.now)) ≡ false = not-true (are_too_long ((let a = c.args in moved_names a.array.now a.book a.list.now))) (sym c.lay_move.ensures.fits_is ∙ not-false _ c.if-not-lay_move.false) in
+    let fits : are_too_long ((let a = c.args in moved_names a.array.now a.book a.list.now)) ≡ false = not-true (are_too_long ((let a = c.args in moved_names a.array.now a.book a.list.now))) (sym c.lay_move.ensures.fits_is ∙ c.if-not-lay_move.false) in
     let laid : let a = c.args in c.lay_move.new.wanted ≡ wanted_move (sector_part a.array.now a.sector) (is_read a.array.now a.book) (names_in (listed a.list.now)) = let a = c.args in rw (sector_sliced a.array.now a.sector) at (c.lay_move.ensures.laid fits) in
     let a = c.args in
     sym (ap length laid ∙ move_want_long _ a.array.now a.book a.list.now fits)
@@ -64,7 +64,7 @@ slice_bounds-plan_update-end c =
 pub returns : goal.returns
 returns c =
     let clear : let a = c.args in first_of (list_refusals a.s a.array.now a.book a.sector a.list.now true) ≡ 0 = sym c.list_refusal-number.ensures ∙ c.if-number-ne0.false in
-    let fits : are_too_long ((let a = c.args in moved_names a.array.now a.book a.list.now)) ≡ false = not-true (are_too_long ((let a = c.args in moved_names a.array.now a.book a.list.now))) (sym c.lay_move.ensures.fits_is ∙ not-false _ c.if-not-lay_move.false) in
+    let fits : are_too_long ((let a = c.args in moved_names a.array.now a.book a.list.now)) ≡ false = not-true (are_too_long ((let a = c.args in moved_names a.array.now a.book a.list.now))) (sym c.lay_move.ensures.fits_is ∙ c.if-not-lay_move.false) in
     let laid : let a = c.args in c.lay_move.new.wanted ≡ wanted_move (sector_part a.array.now a.sector) (is_read a.array.now a.book) (names_in (listed a.list.now)) = let a = c.args in rw (sector_sliced a.array.now a.sector) at (c.lay_move.ensures.laid fits) in
     moves-planned _ _ _ _ _ _ _ _ _ (move-none _ _ _ _ _ clear fits)
     (rw laid at c.plan_update.ensures)

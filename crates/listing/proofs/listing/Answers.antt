@@ -20,23 +20,6 @@ use Rattle.listing.proofs.Laws.Listing.{ran_number, ran_offset, ran_long, ran_li
 use borrow.Author.Rules.{rules}
 use Rattle.listing.proofs.listing.Goals as goal
 
-ran : (c : goal.After-run_script-ran)
-    → let r = c.run_script-ran.result in
-    ScriptRun high (Script (Rooms c)) new05pa (Room (Rooms c)) r (device r.state c.run_script-ran.new.array) (Filled c)
-ran c =
-    let erased_is = c.erased_array-array.ensures in
-    rw (erased_is, c.new_chip.ensures) at c.run_script-ran.ensures
-
-last : (c : goal.After-put_frame_lines-last_line)
-    → let e = Else c in
-    Left c.put_frame_lines-last_line.result (Status e) c.put_frame_lines-last_line.new.text 0 (Lines e ++ Status e) (Text (Rooms (Run e)))
-last c =
-    let e = Else c in
-    let fits : length (Lines e ++ Status e) ≤ longest_listing = rw (whole e) at (listing_fits (Script (Rooms (Run e)))) in
-    left_turn (Lines e) (Status e)
-    (left_start 0 (Lines e ++ Status e) (Text (Rooms (Run e))) (omega (arith, fits, c.put_frame_lines-arg-1.given.0.1)))
-    (rw (cut-output e, cut-driven e) at c.put_frame_lines-last_line.ensures)
-
 pub slice_bounds-output-end : goal.slice_bounds-output-end
 slice_bounds-output-end c =
     let count_is : c.survey_of-survey.result.output ≡ (survey_of (c.args.script.now)).output = ap (λ (s : Surveyed). s.output) c.survey_of-survey.ensures in
@@ -66,11 +49,12 @@ put_refusal-requires c =
     let count_is : c.survey_of-survey.result.output ≡ (survey_of (c.args.script.now)).output = ap (λ (s : Surveyed). s.output) c.survey_of-survey.ensures in
     let inside : (c.survey_of-survey.result.output ≤ length c.line_room-output.result) × (c.survey_of-survey.result.output ≤ length c.line_room-driven.result) = let small = output_small (c.args.script.now) in (omega (arith, count_is, small, c.line_room-output.ensures), omega (arith, count_is, small, c.line_room-driven.ensures)) in
     let lent : Long (survey_of (c.args.script.now)).output ((front (c.survey_of-survey.result.output) (on_line c.line_room-output.result c.line_room-driven.result))) = record { output_long = length-take-le _ _ inside.0 ∙ count_is; driven_long = length-take-le _ _ inside.1 ∙ count_is; } in
+    let ran : let r = c.run_script-ran.result in ScriptRun high (c.args.script.now) new05pa ((front (c.survey_of-survey.result.output) (on_line c.line_room-output.result c.line_room-driven.result))) r (device r.state c.run_script-ran.new.array) ((on_line c.run_script-ran.new.output c.run_script-ran.new.driven)) = let erased_is = c.erased_array-array.ensures in rw (erased_is, c.new_chip.ensures) at c.run_script-ran.ensures in
     let l = lent in
     let small = number_small (c.args.script.now) in
     let near = offset_small (c.args.script.now) in record {
-      number_lt_decimal_end = rw (ran_number l (ran (goal.at.put_refusal-requires c).After-run_script-ran)) small;
-      offset_lt_decimal_end = rw (ran_offset l (ran (goal.at.put_refusal-requires c).After-run_script-ran)) near;
+      number_lt_decimal_end = rw (ran_number l ran) small;
+      offset_lt_decimal_end = rw (ran_offset l ran) near;
       in_bounds = omega (arith, c.put_refusal-arg-1.given.0.1);
     }
 
@@ -79,16 +63,18 @@ returns-then-ran-ne0 c =
     let count_is : c.survey_of-survey.result.output ≡ (survey_of (c.args.script.now)).output = ap (λ (s : Surveyed). s.output) c.survey_of-survey.ensures in
     let inside : (c.survey_of-survey.result.output ≤ length c.line_room-output.result) × (c.survey_of-survey.result.output ≤ length c.line_room-driven.result) = let small = output_small (c.args.script.now) in (omega (arith, count_is, small, c.line_room-output.ensures), omega (arith, count_is, small, c.line_room-driven.ensures)) in
     let lent : Long (survey_of (c.args.script.now)).output ((front (c.survey_of-survey.result.output) (on_line c.line_room-output.result c.line_room-driven.result))) = record { output_long = length-take-le _ _ inside.0 ∙ count_is; driven_long = length-take-le _ _ inside.1 ∙ count_is; } in
+    let ran : let r = c.run_script-ran.result in ScriptRun high (c.args.script.now) new05pa ((front (c.survey_of-survey.result.output) (on_line c.line_room-output.result c.line_room-driven.result))) r (device r.state c.run_script-ran.new.array) ((on_line c.run_script-ran.new.output c.run_script-ran.new.driven)) = let erased_is = c.erased_array-array.ensures in rw (erased_is, c.new_chip.ensures) at c.run_script-ran.ensures in
     let l = lent in
-    let e = ran_number l (ran (goal.at.returns-then-ran-ne0 c).After-run_script-ran) in
-    rw (listing_refused (c.args.script.now) (λ z. c.if-ran-ne0.true (e ∙ z)), ← e, ← ran_offset l (ran (goal.at.returns-then-ran-ne0 c).After-run_script-ran)) c.put_refusal.ensures
+    let e = ran_number l ran in
+    rw (listing_refused (c.args.script.now) (λ z. c.if-ran-ne0.true (e ∙ z)), ← e, ← ran_offset l ran) c.put_refusal.ensures
 
 pub slice_bounds-output-end-2 : goal.slice_bounds-output-end-2
 slice_bounds-output-end-2 c =
     let count_is : c.survey_of-survey.result.output ≡ (survey_of (c.args.script.now)).output = ap (λ (s : Surveyed). s.output) c.survey_of-survey.ensures in
     let inside : (c.survey_of-survey.result.output ≤ length c.line_room-output.result) × (c.survey_of-survey.result.output ≤ length c.line_room-driven.result) = let small = output_small (c.args.script.now) in (omega (arith, count_is, small, c.line_room-output.ensures), omega (arith, count_is, small, c.line_room-driven.ensures)) in
     let lent : Long (survey_of (c.args.script.now)).output ((front (c.survey_of-survey.result.output) (on_line c.line_room-output.result c.line_room-driven.result))) = record { output_long = length-take-le _ _ inside.0 ∙ count_is; driven_long = length-take-le _ _ inside.1 ∙ count_is; } in
-    let filled : Long (survey_of (c.args.script.now)).output ((on_line c.run_script-ran.new.output c.run_script-ran.new.driven)) = ran_long lent (ran c) c.if-ran-ne0.false in
+    let ran : let r = c.run_script-ran.result in ScriptRun high (c.args.script.now) new05pa ((front (c.survey_of-survey.result.output) (on_line c.line_room-output.result c.line_room-driven.result))) r (device r.state c.run_script-ran.new.array) ((on_line c.run_script-ran.new.output c.run_script-ran.new.driven)) = let erased_is = c.erased_array-array.ensures in rw (erased_is, c.new_chip.ensures) at c.run_script-ran.ensures in
+    let filled : Long (survey_of (c.args.script.now)).output ((on_line c.run_script-ran.new.output c.run_script-ran.new.driven)) = ran_long lent ran c.if-ran-ne0.false in
     let r = c in
     omega (arith, filled.output_long, count_is r, length-append ((on_line c.run_script-ran.new.output c.run_script-ran.new.driven)).output (drop (Count r) r.before.line-room.result))
 
@@ -97,7 +83,8 @@ slice_bounds-put_frame_lines-end c =
     let count_is : c.survey_of-survey.result.output ≡ (survey_of (c.args.script.now)).output = ap (λ (s : Surveyed). s.output) c.survey_of-survey.ensures in
     let inside : (c.survey_of-survey.result.output ≤ length c.line_room-output.result) × (c.survey_of-survey.result.output ≤ length c.line_room-driven.result) = let small = output_small (c.args.script.now) in (omega (arith, count_is, small, c.line_room-output.ensures), omega (arith, count_is, small, c.line_room-driven.ensures)) in
     let lent : Long (survey_of (c.args.script.now)).output ((front (c.survey_of-survey.result.output) (on_line c.line_room-output.result c.line_room-driven.result))) = record { output_long = length-take-le _ _ inside.0 ∙ count_is; driven_long = length-take-le _ _ inside.1 ∙ count_is; } in
-    let filled : Long (survey_of (c.args.script.now)).output ((on_line c.run_script-ran.new.output c.run_script-ran.new.driven)) = ran_long lent (ran c) c.if-ran-ne0.false in
+    let ran : let r = c.run_script-ran.result in ScriptRun high (c.args.script.now) new05pa ((front (c.survey_of-survey.result.output) (on_line c.line_room-output.result c.line_room-driven.result))) r (device r.state c.run_script-ran.new.array) ((on_line c.run_script-ran.new.output c.run_script-ran.new.driven)) = let erased_is = c.erased_array-array.ensures in rw (erased_is, c.new_chip.ensures) at c.run_script-ran.ensures in
+    let filled : Long (survey_of (c.args.script.now)).output ((on_line c.run_script-ran.new.output c.run_script-ran.new.driven)) = ran_long lent ran c.if-ran-ne0.false in
     let cut-output : take (c.survey_of-survey.result.output) ((let r = c in on_line (((on_line c.run_script-ran.new.output c.run_script-ran.new.driven)).output ++ drop (Count r) r.before.line-room.result) (((on_line c.run_script-ran.new.output c.run_script-ran.new.driven)).driven ++ drop (Count r) r.line-room2.result))).output ≡ ((on_line c.run_script-ran.new.output c.run_script-ran.new.driven)).output = take_at _ _ _ (filled.output_long ∙ sym count_is) in
     sym (ap length cut-output ∙ filled.output_long ∙ sym count_is)
 
@@ -106,7 +93,8 @@ slice_bounds-driven-end-2 c =
     let count_is : c.survey_of-survey.result.output ≡ (survey_of (c.args.script.now)).output = ap (λ (s : Surveyed). s.output) c.survey_of-survey.ensures in
     let inside : (c.survey_of-survey.result.output ≤ length c.line_room-output.result) × (c.survey_of-survey.result.output ≤ length c.line_room-driven.result) = let small = output_small (c.args.script.now) in (omega (arith, count_is, small, c.line_room-output.ensures), omega (arith, count_is, small, c.line_room-driven.ensures)) in
     let lent : Long (survey_of (c.args.script.now)).output ((front (c.survey_of-survey.result.output) (on_line c.line_room-output.result c.line_room-driven.result))) = record { output_long = length-take-le _ _ inside.0 ∙ count_is; driven_long = length-take-le _ _ inside.1 ∙ count_is; } in
-    let filled : Long (survey_of (c.args.script.now)).output ((on_line c.run_script-ran.new.output c.run_script-ran.new.driven)) = ran_long lent (ran c) c.if-ran-ne0.false in
+    let ran : let r = c.run_script-ran.result in ScriptRun high (c.args.script.now) new05pa ((front (c.survey_of-survey.result.output) (on_line c.line_room-output.result c.line_room-driven.result))) r (device r.state c.run_script-ran.new.array) ((on_line c.run_script-ran.new.output c.run_script-ran.new.driven)) = let erased_is = c.erased_array-array.ensures in rw (erased_is, c.new_chip.ensures) at c.run_script-ran.ensures in
+    let filled : Long (survey_of (c.args.script.now)).output ((on_line c.run_script-ran.new.output c.run_script-ran.new.driven)) = ran_long lent ran c.if-ran-ne0.false in
     let r = c in
     omega (arith, filled.driven_long, count_is r, length-append ((on_line c.run_script-ran.new.output c.run_script-ran.new.driven)).driven (drop (Count r) r.line-room2.result))
 
@@ -115,7 +103,8 @@ slice_bounds-put_frame_lines-end-2 c =
     let count_is : c.survey_of-survey.result.output ≡ (survey_of (c.args.script.now)).output = ap (λ (s : Surveyed). s.output) c.survey_of-survey.ensures in
     let inside : (c.survey_of-survey.result.output ≤ length c.line_room-output.result) × (c.survey_of-survey.result.output ≤ length c.line_room-driven.result) = let small = output_small (c.args.script.now) in (omega (arith, count_is, small, c.line_room-output.ensures), omega (arith, count_is, small, c.line_room-driven.ensures)) in
     let lent : Long (survey_of (c.args.script.now)).output ((front (c.survey_of-survey.result.output) (on_line c.line_room-output.result c.line_room-driven.result))) = record { output_long = length-take-le _ _ inside.0 ∙ count_is; driven_long = length-take-le _ _ inside.1 ∙ count_is; } in
-    let filled : Long (survey_of (c.args.script.now)).output ((on_line c.run_script-ran.new.output c.run_script-ran.new.driven)) = ran_long lent (ran c) c.if-ran-ne0.false in
+    let ran : let r = c.run_script-ran.result in ScriptRun high (c.args.script.now) new05pa ((front (c.survey_of-survey.result.output) (on_line c.line_room-output.result c.line_room-driven.result))) r (device r.state c.run_script-ran.new.array) ((on_line c.run_script-ran.new.output c.run_script-ran.new.driven)) = let erased_is = c.erased_array-array.ensures in rw (erased_is, c.new_chip.ensures) at c.run_script-ran.ensures in
+    let filled : Long (survey_of (c.args.script.now)).output ((on_line c.run_script-ran.new.output c.run_script-ran.new.driven)) = ran_long lent ran c.if-ran-ne0.false in
     let cut-driven : take (c.survey_of-survey.result.output) ((let r = c in on_line (((on_line c.run_script-ran.new.output c.run_script-ran.new.driven)).output ++ drop (Count r) r.before.line-room.result) (((on_line c.run_script-ran.new.output c.run_script-ran.new.driven)).driven ++ drop (Count r) r.line-room2.result))).driven ≡ ((on_line c.run_script-ran.new.output c.run_script-ran.new.driven)).driven = take_at _ _ _ (filled.driven_long ∙ sym count_is) in
     sym (ap length cut-driven ∙ filled.driven_long ∙ sym count_is)
 
@@ -124,11 +113,12 @@ put_frame_lines-last_line-requires c =
     let count_is : c.survey_of-survey.result.output ≡ (survey_of (c.args.script.now)).output = ap (λ (s : Surveyed). s.output) c.survey_of-survey.ensures in
     let inside : (c.survey_of-survey.result.output ≤ length c.line_room-output.result) × (c.survey_of-survey.result.output ≤ length c.line_room-driven.result) = let small = output_small (c.args.script.now) in (omega (arith, count_is, small, c.line_room-output.ensures), omega (arith, count_is, small, c.line_room-driven.ensures)) in
     let lent : Long (survey_of (c.args.script.now)).output ((front (c.survey_of-survey.result.output) (on_line c.line_room-output.result c.line_room-driven.result))) = record { output_long = length-take-le _ _ inside.0 ∙ count_is; driven_long = length-take-le _ _ inside.1 ∙ count_is; } in
-    let filled : Long (survey_of (c.args.script.now)).output ((on_line c.run_script-ran.new.output c.run_script-ran.new.driven)) = ran_long lent (ran c) c.if-ran-ne0.false in
+    let ran : let r = c.run_script-ran.result in ScriptRun high (c.args.script.now) new05pa ((front (c.survey_of-survey.result.output) (on_line c.line_room-output.result c.line_room-driven.result))) r (device r.state c.run_script-ran.new.array) ((on_line c.run_script-ran.new.output c.run_script-ran.new.driven)) = let erased_is = c.erased_array-array.ensures in rw (erased_is, c.new_chip.ensures) at c.run_script-ran.ensures in
+    let filled : Long (survey_of (c.args.script.now)).output ((on_line c.run_script-ran.new.output c.run_script-ran.new.driven)) = ran_long lent ran c.if-ran-ne0.false in
     let cut-output : take (c.survey_of-survey.result.output) ((let r = c in on_line (((on_line c.run_script-ran.new.output c.run_script-ran.new.driven)).output ++ drop (Count r) r.before.line-room.result) (((on_line c.run_script-ran.new.output c.run_script-ran.new.driven)).driven ++ drop (Count r) r.line-room2.result))).output ≡ ((on_line c.run_script-ran.new.output c.run_script-ran.new.driven)).output = take_at _ _ _ (filled.output_long ∙ sym count_is) in
     let cut-driven : take (c.survey_of-survey.result.output) ((let r = c in on_line (((on_line c.run_script-ran.new.output c.run_script-ran.new.driven)).output ++ drop (Count r) r.before.line-room.result) (((on_line c.run_script-ran.new.output c.run_script-ran.new.driven)).driven ++ drop (Count r) r.line-room2.result))).driven ≡ ((on_line c.run_script-ran.new.output c.run_script-ran.new.driven)).driven = take_at _ _ _ (filled.driven_long ∙ sym count_is) in
     (
-      sym (ran_number lent (ran c)) ∙ c.if-ran-ne0.false,
+      sym (ran_number lent ran) ∙ c.if-ran-ne0.false,
       (
         record { output_long = ap length cut-output ∙ filled.output_long; driven_long = ap length cut-driven ∙ filled.driven_long },
         omega (arith, c.put_frame_lines-arg-1.given.0.1),
@@ -136,13 +126,17 @@ put_frame_lines-last_line-requires c =
     )
 
 pub put_hex_line-requires : goal.put_hex_line-requires
-put_hex_line-requires c = rw c.status_of.ensures (left_fits (last (goal.at.put_hex_line-requires c).After-status_of-arg-1))
+put_hex_line-requires c =
+    let last : let e = c in Left c.put_frame_lines-last_line.result (Status e) c.put_frame_lines-last_line.new.text 0 (Lines e ++ Status e) (Text (Rooms (Run e))) = let e = c in let fits : length (Lines e ++ Status e) ≤ longest_listing = rw (whole e) at (listing_fits (Script (Rooms (Run e)))) in left_turn (Lines e) (Status e) (left_start 0 (Lines e ++ Status e) (Text (Rooms (Run e))) (omega (arith, fits, c.put_frame_lines-arg-1.given.0.1))) (rw (cut-output e, cut-driven e) at c.put_frame_lines-last_line.ensures) in
+    rw c.status_of.ensures (left_fits last)
 
 pub returns : goal.returns
 returns c =
     let count_is : c.survey_of-survey.result.output ≡ (survey_of (c.args.script.now)).output = ap (λ (s : Surveyed). s.output) c.survey_of-survey.ensures in
     let inside : (c.survey_of-survey.result.output ≤ length c.line_room-output.result) × (c.survey_of-survey.result.output ≤ length c.line_room-driven.result) = let small = output_small (c.args.script.now) in (omega (arith, count_is, small, c.line_room-output.ensures), omega (arith, count_is, small, c.line_room-driven.ensures)) in
     let lent : Long (survey_of (c.args.script.now)).output ((front (c.survey_of-survey.result.output) (on_line c.line_room-output.result c.line_room-driven.result))) = record { output_long = length-take-le _ _ inside.0 ∙ count_is; driven_long = length-take-le _ _ inside.1 ∙ count_is; } in
-    let whole : listing (c.args.script.now) ≡ (cut_lines (records_of (c.args.script.now)) ((on_line c.run_script-ran.new.output c.run_script-ran.new.driven))) ++ (line 0x53 (hex (status_of c.run_script.result.state ∷ []))) = ran_listing lent (ran c) c.if-ran-ne0.false in
+    let ran : let r = c.run_script-ran.result in ScriptRun high (c.args.script.now) new05pa ((front (c.survey_of-survey.result.output) (on_line c.line_room-output.result c.line_room-driven.result))) r (device r.state c.run_script-ran.new.array) ((on_line c.run_script-ran.new.output c.run_script-ran.new.driven)) = let erased_is = c.erased_array-array.ensures in rw (erased_is, c.new_chip.ensures) at c.run_script-ran.ensures in
+    let whole : listing (c.args.script.now) ≡ (cut_lines (records_of (c.args.script.now)) ((on_line c.run_script-ran.new.output c.run_script-ran.new.driven))) ++ (line 0x53 (hex (status_of c.run_script.result.state ∷ []))) = ran_listing lent ran c.if-ran-ne0.false in
+    let last : let e = c in Left c.put_frame_lines-last_line.result (Status e) c.put_frame_lines-last_line.new.text 0 (Lines e ++ Status e) (Text (Rooms (Run e))) = let e = c in let fits : length (Lines e ++ Status e) ≤ longest_listing = rw (whole e) at (listing_fits (Script (Rooms (Run e)))) in left_turn (Lines e) (Status e) (left_start 0 (Lines e ++ Status e) (Text (Rooms (Run e))) (omega (arith, fits, c.put_frame_lines-arg-1.given.0.1))) (rw (cut-output e, cut-driven e) at c.put_frame_lines-last_line.ensures) in
     let told = rw c.status_of.ensures at c.put_hex_line.ensures in
-    rw whole (left_last (last (goal.at.returns c).After-status_of-arg-1) told)
+    rw whole (left_last last told)

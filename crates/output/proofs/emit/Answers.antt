@@ -28,10 +28,9 @@ pub returns-in-ReadArray : goal.returns-in-ReadArray
 unfolding shown_at
 returns-in-ReadArray c =
     let a = c.args in
-    let read = c.c-1.given in
     let shown = rw c.requires.1 at c.show_array.ensures in
-    let byte : ℕ → ℕ = λ i. memory a.array.now ((read.0.0 + (i - read.0.1.0)) % (data_of a.s).size) in
-    rw read.1 (shown, rw c.requires.3 at (c.drive_since.ensures byte))
+    let byte : ℕ → ℕ = λ i. memory a.array.now ((c.in-ReadArray.from + (i - c.in-ReadArray.at)) % (data_of a.s).size) in
+    rw c.in-ReadArray.is (shown, rw c.requires.3 at (c.drive_since.ensures byte))
 
 pub returns-in_default : goal.returns-in_default
 returns-in_default c = c.show_each.ensures (memory c.args.array.now)

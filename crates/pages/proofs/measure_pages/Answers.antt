@@ -21,7 +21,10 @@ pub loop-page-init : goal.loop-page-init
 loop-page-init c = (omega arith, counting_start _ _ _ c.requires.short)
 
 pub page_part-part-requires : goal.page_part-part-requires
-page_part-part-requires c = (c.requires, (omega arith, omega arith))
+page_part-part-requires c = record {
+      inside = c.requires;
+      start_bound = (omega arith, omega arith);
+    }
 
 pub overflow_add-pages : goal.overflow_add-pages
 overflow_add-pages c = omega (arith, counting_turn c.loop-page.invariant.1 c.loop-page-test.true c.page_part-part.ensures)

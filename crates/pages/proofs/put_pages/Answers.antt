@@ -28,11 +28,11 @@ pub put_part-next-requires : goal.put_part-next-requires
 put_part-next-requires c =
     let l = c.loop-page in
     let a = c.args in
-    let p = c.page_part.result in (
-      c.page_part.ensures.inside,
-      left_room (encode (part_records (wanted_at a.start a.wanted.now) p.from (p.to - p.from))) _
-          (rw (pages_turn _ _ _ _ l.invariant.0 c.loop-page-test.true c.page_part.ensures) at l.invariant.2),
-    )
+    let p = c.page_part.result in record {
+      part_in = c.page_part.ensures.inside;
+      from_in_bounds = left_room (encode (part_records (wanted_at a.start a.wanted.now) p.from (p.to - p.from))) _
+          (rw (pages_turn _ _ _ _ l.invariant.0 c.loop-page-test.true c.page_part.ensures) at l.invariant.2);
+    }
 
 pub overflow_add-page : goal.overflow_add-page
 overflow_add-page c = omega arith

@@ -19,14 +19,18 @@ returns c = let e : c.before.before.before.args.part.to - c.before.before.before
 pub put_frame-enabled-requires : goal.put_frame-enabled-requires
 put_frame-enabled-requires c =
     let sent-bytes : let a = c.args in encode (part_records (wanted_at a.start a.wanted.now) a.part.from (a.part.to - a.part.from)) ≡ part_bytes a.start a.wanted.now a.part.from a.part.to = let a = c.args in part_bytes_lem a.start a.wanted.now a.part.from a.part.to (omega arith) (omega arith) (omega arith) in
-    let begun : let a = c.args in Whole a.at (part_bytes a.start a.wanted.now a.part.from a.part.to) a.buffer.now = left_start _ _ _ (rw sent-bytes at c.requires.from_in_bounds) in
-    (omega arith, left_room (encode_record (frame (0x06 ∷ []))) _ begun)
+    let begun : let a = c.args in Whole a.at (part_bytes a.start a.wanted.now a.part.from a.part.to) a.buffer.now = left_start _ _ _ (rw sent-bytes at c.requires.from_in_bounds) in record {
+      bytes_len_bound = omega arith;
+      bytes_in_bounds = left_room (encode_record (frame (0x06 ∷ []))) _ begun;
+    }
 
 pub put_head-headed-requires : goal.put_head-headed-requires
 put_head-headed-requires c =
     let sent-bytes : let a = c.args in encode (part_records (wanted_at a.start a.wanted.now) a.part.from (a.part.to - a.part.from)) ≡ part_bytes a.start a.wanted.now a.part.from a.part.to = let a = c.args in part_bytes_lem a.start a.wanted.now a.part.from a.part.to (omega arith) (omega arith) (omega arith) in
-    let begun : let a = c.args in Whole a.at (part_bytes a.start a.wanted.now a.part.from a.part.to) a.buffer.now = left_start _ _ _ (rw sent-bytes at c.requires.from_in_bounds) in
-    (omega arith, left_room (frame_head _) _ (left_turn _ _ begun c.put_frame-enabled.ensures))
+    let begun : let a = c.args in Whole a.at (part_bytes a.start a.wanted.now a.part.from a.part.to) a.buffer.now = left_start _ _ _ (rw sent-bytes at c.requires.from_in_bounds) in record {
+      n_le_longest_frame = omega arith;
+      at_in_bounds = left_room (frame_head _) _ (left_turn _ _ begun c.put_frame-enabled.ensures);
+    }
 
 pub put-addressed-requires : goal.put-addressed-requires
 put-addressed-requires c =

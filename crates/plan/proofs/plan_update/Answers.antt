@@ -31,8 +31,10 @@ returns-then-needed-s c =
 pub measure_plan-m-requires : goal.measure_plan-m-requires
 measure_plan-m-requires c =
     let passed : let a = c.args in first_of (region_refusals a.s a.array.now a.start a.wanted.now) ≡ 0 = sym c.region_refusal-number.ensures ∙ c.if-number-ne0.false in
-    let inside : let a = c.args in Inside a.array.now a.start a.wanted.now = let a = c.args in accepted_inside a.s _ _ _ (region_accepted _ _ _ _ passed) in
-    (inside, c.step_one_needed-needed.ensures)
+    let inside : let a = c.args in Inside a.array.now a.start a.wanted.now = let a = c.args in accepted_inside a.s _ _ _ (region_accepted _ _ _ _ passed) in record {
+      inside = inside;
+      needed_value = c.step_one_needed-needed.ensures;
+    }
 
 pub returns-then-buffer-m : goal.returns-then-buffer-m
 returns-then-buffer-m c =

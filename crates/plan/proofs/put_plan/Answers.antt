@@ -11,17 +11,19 @@ use Rattle.plan.proofs.put_plan.Goals as goal
 
 pub put_status-unprotected-requires : goal.put_status-unprotected-requires
 put_status-unprotected-requires c =
-    let begun : let a = c.args in Whole 0 (encode (status_step a.needed a.s 0) ++ (encode (program_step (data_of a.s).word_plans a.array.now a.start a.wanted.now) ++ encode (status_step a.needed a.s a.s.bp))) a.buffer.now = let a = c.args in left_start _ _ _ (rw (← plan_bytes a.s a.array.now a.start a.wanted.now a.needed c.requires.needed_value) (omega arith)) in
-    (omega arith, left_room (encode (status_step c.args.needed c.args.s 0)) _ begun)
+    let begun : let a = c.args in Whole 0 (encode (status_step a.needed a.s 0) ++ (encode (program_step (data_of a.s).word_plans a.array.now a.start a.wanted.now) ++ encode (status_step a.needed a.s a.s.bp))) a.buffer.now = let a = c.args in left_start _ _ _ (rw (← plan_bytes a.s a.array.now a.start a.wanted.now a.needed c.requires.needed_value) (omega arith)) in record {
+      bp_bound = omega arith;
+      bp_in_bounds = left_room (encode (status_step c.args.needed c.args.s 0)) _ begun;
+    }
 
 pub put_program-programmed-requires : goal.put_program-programmed-requires
 put_program-programmed-requires c =
     let begun : let a = c.args in Whole 0 (encode (status_step a.needed a.s 0) ++ (encode (program_step (data_of a.s).word_plans a.array.now a.start a.wanted.now) ++ encode (status_step a.needed a.s a.s.bp))) a.buffer.now = let a = c.args in left_start _ _ _ (rw (← plan_bytes a.s a.array.now a.start a.wanted.now a.needed c.requires.needed_value) (omega arith)) in
-    let a = c.args in (
-      c.requires.inside,
-      rw c.chip_of-words.ensures (left_room (encode (program_step (data_of a.s).word_plans a.array.now a.start a.wanted.now)) _
-          (left_turn _ _ begun c.put_status-unprotected.ensures)),
-    )
+    let a = c.args in record {
+      inside = c.requires.inside;
+      wanted_in_bounds = rw c.chip_of-words.ensures (left_room (encode (program_step (data_of a.s).word_plans a.array.now a.start a.wanted.now)) _
+          (left_turn _ _ begun c.put_status-unprotected.ensures));
+    }
 
 pub put_status-requires : goal.put_status-requires
 put_status-requires c =

@@ -13,10 +13,6 @@ use Rattle.run.proofs.Laws.Accepted.{number_surveyed}
 use borrow.Author.Rules.{rules}
 use Rattle.run.proofs.script_number.Goals as goal
 
-sized : (c : goal.Else-array-chip_of)
-    → let a = c.args in not (eqb (length a.array.now) (data_of a.s).size) ≡ false
-sized c = ap not (eq-eqb _ _ (rw c.chip_of.ensures at c.if-array-chip_of.false))
-
 pub returns-then-not-is_sound : goal.returns-then-not-is_sound
 returns-then-not-is_sound c = yes _ (rw c.is_sound.ensures at c.if-not-is_sound.true) refl ∙ sym (number_surveyed _ _ _ _)
 
@@ -29,26 +25,25 @@ returns-then-array-chip_of c =
 pub returns-then-survey-ne0 : goal.returns-then-survey-ne0
 returns-then-survey-ne0 c =
     let sound : not (is_sound c.args.s) ≡ false = rw c.is_sound.ensures at c.if-not-is_sound.false in
+    let sized : let a = c.args in not (eqb (length a.array.now) (data_of a.s).size) ≡ false = ap not (eq-eqb _ _ (rw c.chip_of.ensures at c.if-array-chip_of.false)) in
     ap (λ (v : Surveyed). v.number) c.requires
-    ∙ no _ sound (no _ (sized (goal.at.returns-then-survey-ne0 c).Else-array-chip_of) (yes _ (ap not (ne_eqb _ 0 (rw c.requires at c.if-survey-ne0.true))) refl))
+    ∙ no _ sound (no _ sized (yes _ (ap not (ne_eqb _ 0 (rw c.requires at c.if-survey-ne0.true))) refl))
     ∙ sym (number_surveyed _ _ _ _)
-
--- the script's own refusals are passed
-surveyed : (c : goal.Else-survey-ne0)
-    → let a = c.args in not (eqb (survey_of a.script.now).number 0) ≡ false
-surveyed c =
-    ap not (eq-eqb _ 0 (rw c.requires at c.if-survey-ne0.false))
 
 pub returns-then-output-survey : goal.returns-then-output-survey
 returns-then-output-survey c =
     let sound : not (is_sound c.args.s) ≡ false = rw c.is_sound.ensures at c.if-not-is_sound.false in
+    let sized : let a = c.args in not (eqb (length a.array.now) (data_of a.s).size) ≡ false = ap not (eq-eqb _ _ (rw c.chip_of.ensures at c.if-array-chip_of.false)) in
+    let surveyed : let a = c.args in not (eqb (survey_of a.script.now).number 0) ≡ false = ap not (eq-eqb _ 0 (rw c.requires at c.if-survey-ne0.false)) in
     no _ sound
-    (no _ (sized (goal.at.returns-then-output-survey c).Else-array-chip_of) (no _ (surveyed (goal.at.returns-then-output-survey c).Else-survey-ne0) (yes _ (rw c.requires at c.if-output-survey.true) refl)))
+    (no _ sized (no _ surveyed (yes _ (rw c.requires at c.if-output-survey.true) refl)))
     ∙ sym (number_surveyed _ _ _ _)
 
 pub returns : goal.returns
 returns c =
     let sound : not (is_sound c.args.s) ≡ false = rw c.is_sound.ensures at c.if-not-is_sound.false in
+    let sized : let a = c.args in not (eqb (length a.array.now) (data_of a.s).size) ≡ false = ap not (eq-eqb _ _ (rw c.chip_of.ensures at c.if-array-chip_of.false)) in
+    let surveyed : let a = c.args in not (eqb (survey_of a.script.now).number 0) ≡ false = ap not (eq-eqb _ 0 (rw c.requires at c.if-survey-ne0.false)) in
     no _ sound
-    (no _ (sized (goal.at.returns c).Else-array-chip_of) (no _ (surveyed (goal.at.returns c).Else-survey-ne0) (no _ (rw c.requires at c.if-output-survey.false) refl)))
+    (no _ sized (no _ surveyed (no _ (rw c.requires at c.if-output-survey.false) refl)))
     ∙ sym (number_surveyed _ _ _ _)

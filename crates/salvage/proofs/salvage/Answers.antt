@@ -44,8 +44,10 @@ pub put_pieces-size-requires : goal.put_pieces-size-requires
 put_pieces-size-requires c =
     let sector_is : length (c.args.sector.now) ≡ 4096 = sector-sized (c.args.sector.now) (c.args.kept.now) (c.args.dropped.now) c.if-sector-kept.false in
     let kept-is : length (c.args.kept.now) ≡ 4096 = kept-sized (c.args.sector.now) (c.args.kept.now) (c.args.dropped.now) c.if-sector-kept.false in
-    let used = used-most _ _ c.used_part-used.ensures sector_is in
-    ((used, omega (arith, used, kept-is)), omega (arith, c.if-dropped-length.false, c.list_length-length.ensures))
+    let used = used-most _ _ c.used_part-used.ensures sector_is in record {
+      bytes_len_bound = (used, omega (arith, used, kept-is));
+      bytes_in_bounds = omega (arith, c.if-dropped-length.false, c.list_length-length.ensures);
+    }
 
 pub fill_run-requires : goal.fill_run-requires
 fill_run-requires c =

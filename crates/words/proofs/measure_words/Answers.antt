@@ -22,7 +22,10 @@ pub loop-word-init : goal.loop-word-init
 loop-word-init c = counting_start _ _ _ c.requires.short
 
 pub word_changes-changes-requires : goal.word_changes-changes-requires
-word_changes-changes-requires c = (c.requires, omega arith)
+word_changes-changes-requires c = record {
+      inside = c.requires;
+      address_in_bounds = omega arith;
+    }
 
 pub overflow_add-words : goal.overflow_add-words
 overflow_add-words c = omega (arith, counting_turn c.loop-word.invariant c.loop-word-test.true c.word_changes-changes.ensures)

@@ -12,14 +12,18 @@ use Rattle.words.proofs.put_first.Goals as goal
 pub put_frame-enabled-requires : goal.put_frame-enabled-requires
 unfolding word_records
 put_frame-enabled-requires c =
-    let begun : Whole c.args.at (encode (word_records (wanted_at c.args.start c.args.wanted.now) false true c.args.address)) c.args.buffer.now = left_start _ _ _ c.requires.address_in_bounds in
-    (omega arith, record_room _ _ begun)
+    let begun : Whole c.args.at (encode (word_records (wanted_at c.args.start c.args.wanted.now) false true c.args.address)) c.args.buffer.now = left_start _ _ _ c.requires.address_in_bounds in record {
+      bytes_len_bound = omega arith;
+      bytes_in_bounds = record_room _ _ begun;
+    }
 
 pub put_frame-sent-requires : goal.put_frame-sent-requires
 unfolding word_records
 put_frame-sent-requires c =
-    let begun : Whole c.args.at (encode (word_records (wanted_at c.args.start c.args.wanted.now) false true c.args.address)) c.args.buffer.now = left_start _ _ _ c.requires.address_in_bounds in
-    (omega arith, rw (c.wanted_at-odd.ensures, c.wanted_at-even.ensures, c.address_bytes-place.ensures) (record_room _ _ (record_turn _ _ begun c.put_frame-enabled.ensures)))
+    let begun : Whole c.args.at (encode (word_records (wanted_at c.args.start c.args.wanted.now) false true c.args.address)) c.args.buffer.now = left_start _ _ _ c.requires.address_in_bounds in record {
+      bytes_len_bound = omega arith;
+      bytes_in_bounds = rw (c.wanted_at-odd.ensures, c.wanted_at-even.ensures, c.address_bytes-place.ensures) (record_room _ _ (record_turn _ _ begun c.put_frame-enabled.ensures));
+    }
 
 pub put_wait-requires : goal.put_wait-requires
 unfolding word_records

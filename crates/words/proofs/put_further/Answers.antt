@@ -12,8 +12,10 @@ use Rattle.words.proofs.put_further.Goals as goal
 pub put_frame-sent-requires : goal.put_frame-sent-requires
 unfolding word_records
 put_frame-sent-requires c =
-    let begun : Whole c.args.at (encode (word_records (wanted_at c.args.start c.args.wanted.now) true true c.args.address)) c.args.buffer.now = left_start _ _ _ c.requires.address_in_bounds in
-    (omega arith, rw (c.wanted_at-odd.ensures, c.wanted_at-even.ensures) (record_room _ _ begun))
+    let begun : Whole c.args.at (encode (word_records (wanted_at c.args.start c.args.wanted.now) true true c.args.address)) c.args.buffer.now = left_start _ _ _ c.requires.address_in_bounds in record {
+      bytes_len_bound = omega arith;
+      bytes_in_bounds = rw (c.wanted_at-odd.ensures, c.wanted_at-even.ensures) (record_room _ _ begun);
+    }
 
 pub put_wait-requires : goal.put_wait-requires
 unfolding word_records

@@ -20,16 +20,19 @@ pub loop-address-init : goal.loop-address-init
 loop-address-init c = (omega arith, omega arith, left_start _ _ _ (rw (words_start _ _ _ _) at c.requires.wanted_in_bounds))
 
 pub word_changes-changes-requires : goal.word_changes-changes-requires
-word_changes-changes-requires c = (c.requires.inside, omega arith)
+word_changes-changes-requires c = record {
+      inside = c.requires.inside;
+      address_in_bounds = omega arith;
+    }
 
 pub put_word-next-requires : goal.put_word-next-requires
 put_word-next-requires c =
     let l = c.loop-address in
-    let a = c.args in (
-      omega arith,
-      left_room (encode (word_records (wanted_at a.start a.wanted.now) l.running c.word_changes-changes.result l.address)) _
-          (rw (words_turn _ _ _ _ _ l.invariant.0 c.loop-address-test.true c.word_changes-changes.ensures) at l.invariant.2),
-    )
+    let a = c.args in record {
+      address_bound = omega arith;
+      address_in_bounds = left_room (encode (word_records (wanted_at a.start a.wanted.now) l.running c.word_changes-changes.result l.address)) _
+          (rw (words_turn _ _ _ _ _ l.invariant.0 c.loop-address-test.true c.word_changes-changes.ensures) at l.invariant.2);
+    }
 
 pub overflow_add-address : goal.overflow_add-address
 overflow_add-address c = omega arith

@@ -19,11 +19,9 @@ returns-in-Keep c = rw c.in-Keep.is (sym (keep_array _ _))
 pub returns-in-Fill : goal.returns-in-Fill
 returns-in-Fill c =
     let a = c.args in
-    let e = c.e-1.given in
-    rw e.1 (c.fill_run.ensures ∙ fill_in_a_run e.0.0 e.0.1.0 a.input.now a.array.now)
+    rw c.in-Fill.is (c.fill_run.ensures ∙ fill_in_a_run c.in-Fill.start c.in-Fill.count a.input.now a.array.now)
 
 pub returns-in-Program : goal.returns-in-Program
 returns-in-Program c =
     let a = c.args in
-    let e = c.e-in-Program-1.given in
-    rw e.1 (c.and_run.ensures ∙ program_in_a_run e.0.0 e.0.1.0 a.input.now a.array.now e.0.1.1.0)
+    rw c.in-Program.is (c.and_run.ensures ∙ program_in_a_run c.in-Program.start c.in-Program.count a.input.now a.array.now c.in-Program.from)

@@ -15,14 +15,6 @@ use Rattle.listing.proofs.Laws.Frames.{Shown, show_start, frame_inside, frame_dr
 use borrow.Author.Rules.{rules}
 use Rattle.listing.proofs.frames.put_frame_lines.Goals as goal
 
-framed : (c : goal.In-Frame )
-    → FrameTold (Script c) c.loop-length.at c.in-Frame.start c.in-Frame.length c.in-Frame.next
-framed c = rw c.in-Frame.is at (told c)
-
-waited : (c : goal.In-Wait )
-    → Stands (Script c) c.loop-length.at (wait c.in-Wait.microseconds) c.in-Wait.next
-waited c = rw c.in-Wait.is at (told c)
-
 -- there is no other answer than the end
 ended : (c : goal.In_default ) (found : Found) → OneOf (2 ∷ 3 ∷ []) (tag_of the_type found)
     → Told (Script c) c.loop-length.at found → EndTold (Script c) c.loop-length.at
@@ -35,30 +27,53 @@ pub loop-length-init : goal.loop-length-init
 loop-length-init c = show_start _ _ _ c.requires.0 c.requires.1.0 c.requires.1.1
 
 pub overflow_add-end : goal.overflow_add-end
-overflow_add-end c = let h = frame_inside c.loop-length.invariant (framed c) in search rules
+overflow_add-end c =
+    let told : Told (c.args.script.now) c.loop-length.at c.front_at-found.result = front_told (c.args.script.now) c.loop-length.at c.front_at-found.result c.front_at-found.ensures in
+    let framed : FrameTold (c.args.script.now) c.loop-length.at c.in-Frame.start c.in-Frame.length c.in-Frame.next = rw c.in-Frame.is at told in
+    let h = frame_inside c.loop-length.invariant framed in search rules
 
 pub slice_bounds-put_shown_line-end : goal.slice_bounds-put_shown_line-end
-slice_bounds-put_shown_line-end c = frame_inside c.loop-length.invariant (framed c)
+slice_bounds-put_shown_line-end c =
+    let told : Told (c.args.script.now) c.loop-length.at c.front_at-found.result = front_told (c.args.script.now) c.loop-length.at c.front_at-found.result c.front_at-found.ensures in
+    let framed : FrameTold (c.args.script.now) c.loop-length.at c.in-Frame.start c.in-Frame.length c.in-Frame.next = rw c.in-Frame.is at told in
+    frame_inside c.loop-length.invariant (framed)
 
 pub slice_bounds-put_shown_line-end-in-Frame : goal.slice_bounds-put_shown_line-end-in-Frame
-slice_bounds-put_shown_line-end-in-Frame c = frame_driven_inside c.loop-length.invariant (framed (goal.at.slice_bounds-put_shown_line-end-in-Frame c).In-Frame)
+slice_bounds-put_shown_line-end-in-Frame c =
+    let told : Told (c.args.script.now) c.loop-length.at c.front_at-found.result = front_told (c.args.script.now) c.loop-length.at c.front_at-found.result c.front_at-found.ensures in
+    let framed : FrameTold (c.args.script.now) c.loop-length.at c.in-Frame.start c.in-Frame.length c.in-Frame.next = rw c.in-Frame.is at told in
+    frame_driven_inside c.loop-length.invariant (framed)
 
 pub put_shown_line-next_line-requires : goal.put_shown_line-next_line-requires
-put_shown_line-next_line-requires c = frame_room c.loop-length.invariant (framed (goal.at.put_shown_line-next_line-requires c).In-Frame)
+put_shown_line-next_line-requires c =
+    let told : Told (c.args.script.now) c.loop-length.at c.front_at-found.result = front_told (c.args.script.now) c.loop-length.at c.front_at-found.result c.front_at-found.ensures in
+    let framed : FrameTold (c.args.script.now) c.loop-length.at c.in-Frame.start c.in-Frame.length c.in-Frame.next = rw c.in-Frame.is at told in
+    frame_room c.loop-length.invariant (framed)
 
 pub loop-length-smaller-in-Frame : goal.loop-length-smaller-in-Frame
-loop-length-smaller-in-Frame c = let s = (framed (goal.at.loop-length-smaller-in-Frame c).In-Frame).stands in omega (arith, s.next_is, s.least, s.inside)
+loop-length-smaller-in-Frame c =
+    let told : Told (c.args.script.now) c.loop-length.at c.front_at-found.result = front_told (c.args.script.now) c.loop-length.at c.front_at-found.result c.front_at-found.ensures in
+    let framed : FrameTold (c.args.script.now) c.loop-length.at c.in-Frame.start c.in-Frame.length c.in-Frame.next = rw c.in-Frame.is at told in
+    let s = framed.stands in omega (arith, s.next_is, s.least, s.inside)
 
 pub loop-length-preserved-in-Frame : goal.loop-length-preserved-in-Frame
 loop-length-preserved-in-Frame c =
-    let t = framed (goal.at.loop-length-preserved-in-Frame c).In-Frame in
+    let told : Told (c.args.script.now) c.loop-length.at c.front_at-found.result = front_told (c.args.script.now) c.loop-length.at c.front_at-found.result c.front_at-found.ensures in
+    let framed : FrameTold (c.args.script.now) c.loop-length.at c.in-Frame.start c.in-Frame.length c.in-Frame.next = rw c.in-Frame.is at told in
+    let t = framed in
     show_frame c.loop-length.invariant t c.put_shown_line-next_line.ensures
 
 pub loop-length-smaller : goal.loop-length-smaller
-loop-length-smaller c = let s = waited c in omega (arith, s.next_is, s.inside)
+loop-length-smaller c =
+    let told : Told (c.args.script.now) c.loop-length.at c.front_at-found.result = front_told (c.args.script.now) c.loop-length.at c.front_at-found.result c.front_at-found.ensures in
+    let waited : Stands (c.args.script.now) c.loop-length.at (wait c.in-Wait.microseconds) c.in-Wait.next = rw c.in-Wait.is at told in
+    let s = waited in omega (arith, s.next_is, s.inside)
 
 pub loop-length-preserved : goal.loop-length-preserved
-loop-length-preserved c = show_wait c.loop-length.invariant (waited c)
+loop-length-preserved c =
+    let told : Told (c.args.script.now) c.loop-length.at c.front_at-found.result = front_told (c.args.script.now) c.loop-length.at c.front_at-found.result c.front_at-found.ensures in
+    let waited : Stands (c.args.script.now) c.loop-length.at (wait c.in-Wait.microseconds) c.in-Wait.next = rw c.in-Wait.is at told in
+    show_wait c.loop-length.invariant (waited)
 
 pub shape_of-text-in_default : goal.shape_of-text-in_default
 shape_of-text-in_default c = c.loop-length.invariant.lays.long

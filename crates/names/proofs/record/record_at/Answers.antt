@@ -36,7 +36,7 @@ returns-then-not-is_name c =
     let told = rw same at c.is_name.ensures in
     reads_bad a.bytes.now a.at (omega arith)
     c.if-bytes-at-ne-FIRST_MARK.false c.if-bytes-at-ne-SECOND_MARK.false
-    n.result n.ensures.0 c.if-bytes-start.false (sym told ∙ not-true _ c.if-not-is_name.true)
+    n.result n.ensures.0 c.if-bytes-start.false (sym told ∙ c.if-not-is_name.true)
 
 pub returns : goal.returns
 returns c =
@@ -46,4 +46,4 @@ returns c =
     let told = rw same at c.is_name.ensures in
     reads_name a.bytes.now a.at (omega arith)
     c.if-bytes-at-ne-FIRST_MARK.false c.if-bytes-at-ne-SECOND_MARK.false
-    n.result n.ensures.0 c.if-bytes-start.false (sym told ∙ not-false _ c.if-not-is_name.false)
+    n.result n.ensures.0 c.if-bytes-start.false (sym told ∙ c.if-not-is_name.false)

@@ -15,12 +15,12 @@ loop-size-init c = sought_start _ _ _ c.record_at-size.ensures
 pub overflow_add-start : goal.overflow_add-start
 overflow_add-start c =
     let step : Step c.args.bytes.now c.loop-size.at c.loop-size.size c.loop-size.invariant.done = sought_step _ _ _ _ c.loop-size.invariant c.loop-size-test.true in
-    record { fits = omega (arith, step.size, step.ranges) }
+    record { fits = omega (arith, step.size, step.fits) }
 
 pub overflow_add-at : goal.overflow_add-at
 overflow_add-at c =
     let step : Step c.args.bytes.now c.loop-size.at c.loop-size.size c.loop-size.invariant.done = sought_step _ _ _ _ c.loop-size.invariant c.loop-size-test.true in
-    record { fits = omega (arith, step.ranges) }
+    record { fits = omega (arith, step.fits) }
 
 pub slice_bounds-same-count : goal.slice_bounds-same-count
 slice_bounds-same-count c =
@@ -35,7 +35,7 @@ slice_bounds-same-start c =
 pub slice_bounds-same-end : goal.slice_bounds-same-end
 slice_bounds-same-end c =
     let step : Step c.args.bytes.now c.loop-size.at c.loop-size.size c.loop-size.invariant.done = sought_step _ _ _ _ c.loop-size.invariant c.loop-size-test.true in
-    omega (arith, step.ranges)
+    omega (arith, step.fits)
 
 pub returns-then-same : goal.returns-then-same
 returns-then-same c =
@@ -50,7 +50,7 @@ record_at-size-requires-in-loop-size c =
 pub loop-size-smaller : goal.loop-size-smaller
 loop-size-smaller c =
     let step : Step c.args.bytes.now c.loop-size.at c.loop-size.size c.loop-size.invariant.done = sought_step _ _ _ _ c.loop-size.invariant c.loop-size-test.true in
-    omega (arith, step.size, step.ranges)
+    omega (arith, step.size, step.fits)
 
 pub loop-size-preserved : goal.loop-size-preserved
 loop-size-preserved c =

@@ -17,19 +17,20 @@ returns-then-not-needed c = rw (not-true c.args.needed c.if-not-needed.true, enc
 pub put_frame-armed-requires : goal.put_frame-armed-requires
 unfolding status_records
 put_frame-armed-requires c =
-    let begun : let a = c.args in Whole a.at (encode (status_records a.s a.bp)) a.buffer.now = left_start _ _ _ (rw (not-false c.args.needed c.if-not-needed.false) at c.requires.bp_in_bounds) in
-    (omega arith, rw c.arming.ensures (record_room _ _ begun))
+    let begun : let a = c.args in Whole a.at (encode (status_records a.s a.bp)) a.buffer.now = left_start _ _ _ (rw (not-false c.args.needed c.if-not-needed.false) at c.requires.bp_in_bounds) in record {
+      bytes_len_bound = omega arith;
+      bytes_in_bounds = rw c.arming.ensures (record_room _ _ begun);
+    }
 
 pub put_frame-sent-requires : goal.put_frame-sent-requires
 unfolding status_records
 put_frame-sent-requires c =
-    let begun : let a = c.args in Whole a.at (encode (status_records a.s a.bp)) a.buffer.now = left_start _ _ _ (rw (not-false c.args.needed c.if-not-needed.false) at c.requires.bp_in_bounds) in
-    (
-  omega arith,
-  rw c.status_byte.ensures
+    let begun : let a = c.args in Whole a.at (encode (status_records a.s a.bp)) a.buffer.now = left_start _ _ _ (rw (not-false c.args.needed c.if-not-needed.false) at c.requires.bp_in_bounds) in record {
+      bytes_len_bound = omega arith;
+      bytes_in_bounds = rw c.status_byte.ensures
       (record_room _ _ (record_turn _ _ begun
-      (rw c.arming.ensures at c.put_frame-armed.ensures))),
-)
+      (rw c.arming.ensures at c.put_frame-armed.ensures)));
+    }
 
 -- a status write that is done at once: nothing is left
 pub returns-then-time-eq0 : goal.returns-then-time-eq0

@@ -19,16 +19,6 @@ use Rattle.run.proofs.Laws.Walk.{Walked, walk_start, frame_room, frame_driven_ro
 use borrow.Author.Rules.{rules}
 use Rattle.run.proofs.records.run_records.Goals as goal
 
-framed : (c : goal.In-Frame )
-    → FrameTold (Script c) c.loop-start.at
-    c.in-Frame.start c.in-Frame.length c.in-Frame.next
-framed c = rw c.in-Frame.is at (told c)
-
-waited : (c : goal.In-Wait )
-    → Stands (Script c) c.loop-start.at
-    (wait c.in-Wait.microseconds) c.in-Wait.next
-waited c = rw c.in-Wait.is at (told c)
-
 -- there is no other answer than the end
 ended : (c : goal.In_default ) (found : Found) → OneOf (2 ∷ 3 ∷ []) (tag_of the_type found)
     → Told (Script c) c.loop-start.at found → EndTold (Script c) c.loop-start.at
@@ -47,33 +37,59 @@ loop-start-init c =
     )
 
 pub part_at-input-requires : goal.part_at-input-requires
-part_at-input-requires c = let t = framed c in omega (arith, t.start_is, t.long, t.stands.next_is, t.stands.inside)
+part_at-input-requires c =
+    let told : Told (c.args.script.now) c.loop-start.at c.front_at-found.result = front_told (c.args.script.now) c.loop-start.at c.front_at-found.result c.front_at-found.ensures in
+    let framed : FrameTold (c.args.script.now) c.loop-start.at c.in-Frame.start c.in-Frame.length c.in-Frame.next = rw c.in-Frame.is at told in
+    let t = framed in omega (arith, t.start_is, t.long, t.stands.next_is, t.stands.inside)
 
 pub overflow_add-end : goal.overflow_add-end
-overflow_add-end c = let h = frame_room c.loop-start.invariant.1 (framed (goal.at.overflow_add-end c).In-Frame) in search rules
+overflow_add-end c =
+    let told : Told (c.args.script.now) c.loop-start.at c.front_at-found.result = front_told (c.args.script.now) c.loop-start.at c.front_at-found.result c.front_at-found.ensures in
+    let framed : FrameTold (c.args.script.now) c.loop-start.at c.in-Frame.start c.in-Frame.length c.in-Frame.next = rw c.in-Frame.is at told in
+    let h = frame_room c.loop-start.invariant.1 framed in search rules
 
 pub slice_bounds-run_accepted-end : goal.slice_bounds-run_accepted-end
-slice_bounds-run_accepted-end c = frame_room c.loop-start.invariant.1 (framed (goal.at.slice_bounds-run_accepted-end c).In-Frame)
+slice_bounds-run_accepted-end c =
+    let told : Told (c.args.script.now) c.loop-start.at c.front_at-found.result = front_told (c.args.script.now) c.loop-start.at c.front_at-found.result c.front_at-found.ensures in
+    let framed : FrameTold (c.args.script.now) c.loop-start.at c.in-Frame.start c.in-Frame.length c.in-Frame.next = rw c.in-Frame.is at told in
+    frame_room c.loop-start.invariant.1 (framed)
 
 pub slice_bounds-run_accepted-end-in-Frame : goal.slice_bounds-run_accepted-end-in-Frame
-slice_bounds-run_accepted-end-in-Frame c = frame_driven_room c.loop-start.invariant.1 (framed (goal.at.slice_bounds-run_accepted-end-in-Frame c).In-Frame)
+slice_bounds-run_accepted-end-in-Frame c =
+    let told : Told (c.args.script.now) c.loop-start.at c.front_at-found.result = front_told (c.args.script.now) c.loop-start.at c.front_at-found.result c.front_at-found.ensures in
+    let framed : FrameTold (c.args.script.now) c.loop-start.at c.in-Frame.start c.in-Frame.length c.in-Frame.next = rw c.in-Frame.is at told in
+    frame_driven_room c.loop-start.invariant.1 (framed)
 
 pub run_accepted-state-requires : goal.run_accepted-state-requires
-run_accepted-state-requires c = walk_accepted c.loop-start.invariant.1 (framed (goal.at.run_accepted-state-requires c).In-Frame) c.part_at-input.ensures
+run_accepted-state-requires c =
+    let told : Told (c.args.script.now) c.loop-start.at c.front_at-found.result = front_told (c.args.script.now) c.loop-start.at c.front_at-found.result c.front_at-found.ensures in
+    let framed : FrameTold (c.args.script.now) c.loop-start.at c.in-Frame.start c.in-Frame.length c.in-Frame.next = rw c.in-Frame.is at told in
+    walk_accepted c.loop-start.invariant.1 framed c.part_at-input.ensures
 
 pub loop-start-smaller-in-Frame : goal.loop-start-smaller-in-Frame
-loop-start-smaller-in-Frame c = let s = (framed (goal.at.loop-start-smaller-in-Frame c).In-Frame).stands in omega (arith, s.next_is, s.least, s.inside)
+loop-start-smaller-in-Frame c =
+    let told : Told (c.args.script.now) c.loop-start.at c.front_at-found.result = front_told (c.args.script.now) c.loop-start.at c.front_at-found.result c.front_at-found.ensures in
+    let framed : FrameTold (c.args.script.now) c.loop-start.at c.in-Frame.start c.in-Frame.length c.in-Frame.next = rw c.in-Frame.is at told in
+    let s = framed.stands in omega (arith, s.next_is, s.least, s.inside)
 
 pub loop-start-preserved-in-Frame : goal.loop-start-preserved-in-Frame
 loop-start-preserved-in-Frame c =
+    let told : Told (c.args.script.now) c.loop-start.at c.front_at-found.result = front_told (c.args.script.now) c.loop-start.at c.front_at-found.result c.front_at-found.ensures in
+    let framed : FrameTold (c.args.script.now) c.loop-start.at c.in-Frame.start c.in-Frame.length c.in-Frame.next = rw c.in-Frame.is at told in
     let told = c.loop-start.invariant in
-    (told.0, walk_frame told.1 (framed (goal.at.loop-start-preserved-in-Frame c).In-Frame) c.part_at-input.ensures c.run_accepted-state.ensures)
+    (told.0, walk_frame told.1 framed c.part_at-input.ensures c.run_accepted-state.ensures)
 
 pub loop-start-smaller : goal.loop-start-smaller
-loop-start-smaller c = let s = waited (goal.at.loop-start-smaller c).In-Wait in omega (arith, s.next_is, s.inside)
+loop-start-smaller c =
+    let told : Told (c.args.script.now) c.loop-start.at c.front_at-found.result = front_told (c.args.script.now) c.loop-start.at c.front_at-found.result c.front_at-found.ensures in
+    let waited : Stands (c.args.script.now) c.loop-start.at (wait c.in-Wait.microseconds) c.in-Wait.next = rw c.in-Wait.is at told in
+    let s = waited in omega (arith, s.next_is, s.inside)
 
 pub loop-start-preserved : goal.loop-start-preserved
-loop-start-preserved c = let told = c.loop-start.invariant in (told.0, walk_wait told.1 (waited (goal.at.loop-start-preserved c).In-Wait) c.time_passed-state.ensures)
+loop-start-preserved c =
+    let told : Told (c.args.script.now) c.loop-start.at c.front_at-found.result = front_told (c.args.script.now) c.loop-start.at c.front_at-found.result c.front_at-found.ensures in
+    let waited : Stands (c.args.script.now) c.loop-start.at (wait c.in-Wait.microseconds) c.in-Wait.next = rw c.in-Wait.is at told in
+    let told = c.loop-start.invariant in (told.0, walk_wait told.1 waited c.time_passed-state.ensures)
 
 pub shape_of-array-in_default : goal.shape_of-array-in_default
 shape_of-array-in_default c = c.loop-start.invariant.1.sized

@@ -8,11 +8,6 @@ use Rattle.salvage.proofs.Laws.Apart.{list_most}
 use Rattle.salvage.proofs.Laws.Walk.{KeptAt, kept_at, list_at, list_at_end, list_at_stretch, list_at_kept}
 use Rattle.salvage.proofs.pieces.list_length.Goals as goal
 
--- the record that is kept
-kept : (c : goal.Else-record-eq0 )
-    → KeptAt c.args.bytes.now c.loop-at.at c.record_at-record.result
-kept c = kept_at _ _ _ c.record_at-record.ensures c.if-record-eq0.false
-
 pub loop-at-init : goal.loop-at-init
 loop-at-init c = (omega arith, omega arith)
 
@@ -37,15 +32,20 @@ loop-at-preserved-then-record-eq0 c =
     (s.inside, omega (arith, inv, ap length (list_at_stretch _ _ _ s)))
 
 pub overflow_add-at : goal.overflow_add-at
-overflow_add-at c = omega (arith, (kept c).inside)
+overflow_add-at c =
+    let kept : KeptAt c.args.bytes.now c.loop-at.at c.record_at-record.result = kept_at _ _ _ c.record_at-record.ensures c.if-record-eq0.false in
+    omega (arith, kept.inside)
 
 pub loop-at-smaller : goal.loop-at-smaller
-loop-at-smaller c = omega (arith, (kept c).some, (kept c).inside)
+loop-at-smaller c =
+    let kept : KeptAt c.args.bytes.now c.loop-at.at c.record_at-record.result = kept_at _ _ _ c.record_at-record.ensures c.if-record-eq0.false in
+    omega (arith, kept.some, kept.inside)
 
 pub loop-at-preserved : goal.loop-at-preserved
 loop-at-preserved c =
+    let kept : KeptAt c.args.bytes.now c.loop-at.at c.record_at-record.result = kept_at _ _ _ c.record_at-record.ensures c.if-record-eq0.false in
     let inv = c.loop-at.invariant.1 in
-    ((kept c).inside, omega (arith, inv, ap length (list_at_kept _ _ _ (kept c))))
+    (kept.inside, omega (arith, inv, ap length (list_at_kept _ _ _ kept)))
 
 pub returns : goal.returns
 returns c =

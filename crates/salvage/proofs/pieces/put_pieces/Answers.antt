@@ -8,11 +8,6 @@ use Rattle.names.proofs.Laws.Front.{none_exactly}
 use Rattle.salvage.proofs.Laws.Walk.{KeptAt, kept_at, Laying, laying_start, entry_room, laying_stretch, record_room, laying_kept, laying_end}
 use Rattle.salvage.proofs.pieces.put_pieces.Goals as goal
 
--- the record that is kept
-kept_here : (c : goal.Else-record-eq0 )
-    → KeptAt c.args.bytes.now c.loop-at.at c.record_at-record.result
-kept_here c = kept_at _ _ _ c.record_at-record.ensures c.if-record-eq0.false
-
 pub loop-at-init : goal.loop-at-init
 loop-at-init c = laying_start _ _ _ c.requires.bytes_len_bound.1 c.requires.bytes_in_bounds
 
@@ -40,27 +35,35 @@ loop-at-preserved-then-record-eq0 c =
     c.loop-at.invariant _ _ c.put_stretch-listed.ensures
 
 pub overflow_add-end : goal.overflow_add-end
-overflow_add-end c = omega (arith, (kept_here c).inside)
+overflow_add-end c =
+    let kept_here : KeptAt c.args.bytes.now c.loop-at.at c.record_at-record.result = kept_at _ _ _ c.record_at-record.ensures c.if-record-eq0.false in
+    omega (arith, kept_here.inside)
 
 pub slice_bounds-put-end : goal.slice_bounds-put-end
-slice_bounds-put-end c = omega (arith, (kept_here c).inside)
+slice_bounds-put-end c =
+    let kept_here : KeptAt c.args.bytes.now c.loop-at.at c.record_at-record.result = kept_at _ _ _ c.record_at-record.ensures c.if-record-eq0.false in
+    omega (arith, kept_here.inside)
 
 pub put-size-requires : goal.put-size-requires
 put-size-requires c =
+    let kept_here : KeptAt c.args.bytes.now c.loop-at.at c.record_at-record.result = kept_at _ _ _ c.record_at-record.ensures c.if-record-eq0.false in
     let l = c.loop-at in
     let n = c.record_at-record.result in
     let same : l.at + n - l.at ≡ n = omega arith in
-    rw same (record_room _ _ _ _ _ _ _ _ n (kept_here (goal.at.put-size-requires c).Else-record-eq0) l.invariant)
+    rw same (record_room _ _ _ _ _ _ _ _ n kept_here l.invariant)
 
 pub loop-at-smaller : goal.loop-at-smaller
-loop-at-smaller c = let r = kept_here (goal.at.loop-at-smaller c).Else-record-eq0 in omega (arith, r.some, r.inside)
+loop-at-smaller c =
+    let kept_here : KeptAt c.args.bytes.now c.loop-at.at c.record_at-record.result = kept_at _ _ _ c.record_at-record.ensures c.if-record-eq0.false in
+    let r = kept_here in omega (arith, r.some, r.inside)
 
 pub loop-at-preserved : goal.loop-at-preserved
 loop-at-preserved c =
+    let kept_here : KeptAt c.args.bytes.now c.loop-at.at c.record_at-record.result = kept_at _ _ _ c.record_at-record.ensures c.if-record-eq0.false in
     let l = c.loop-at in
     let n = c.record_at-record.result in
     let same : l.at + n - l.at ≡ n = omega arith in
-    laying_kept _ _ _ _ _ _ _ _ n (kept_here (goal.at.loop-at-preserved c).Else-record-eq0) l.invariant _ _ (rw same at c.put-size.ensures)
+    laying_kept _ _ _ _ _ _ _ _ n kept_here l.invariant _ _ (rw same at c.put-size.ensures)
 
 pub shape_of-kept : goal.shape_of-kept
 shape_of-kept c = c.loop-at.invariant.records.long

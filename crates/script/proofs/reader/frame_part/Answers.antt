@@ -3,8 +3,6 @@ use mathlib.Core.Path.{◌≡◌, refl, sym, ap, ◌∙◌}
 use mathlib.Core.List.{List, [], ◌∷◌}
 use Prim.Native.Nat.{ℕ}
 use native.Mathlib.Omega.{arith}
-use types.Run.{OneOf, miss}
-use denote.Enum.Declared.{tag_of}
 use Rattle.script.specs.contracts.reader.Found.{the_type}
 use Rattle.script.specs.declared.reader.Found.{Found}
 use Rattle.script.specs.declared.reader.Found.TheVariants.{Frame, Wait, End, Refused}
@@ -14,8 +12,8 @@ use borrow.Author.Rules.{rules}
 use Rattle.script.proofs.reader.frame_part.Goals as goal
 
 -- all but a frame
-others : (script : List ℕ) (found : Found) → OneOf (1 ∷ 2 ∷ 3 ∷ []) (tag_of the_type found) → part_of script found ≡ []
-others script (Frame start n next) h = absurd (miss (1 ∷ 2 ∷ 3 ∷ []) 0 tt h)
+others : (script : List ℕ) (found : Found) → ((start n next : ℕ) → found ≡ Frame start n next → ⊥) → part_of script found ≡ []
+others script (Frame start n next) h = absurd (h start n next refl)
 others script (Wait microseconds next) h = refl
 others script (End next) h = refl
 others script (Refused number next) h = refl
@@ -24,7 +22,7 @@ pub returns-in_default : goal.returns-in_default
 returns-in_default c =
     let a = c.args in
     let r = c.record_at-found in
-    sym (others a.script.now r.result c.in_default.keys2) ∙ r.ensures.part_is
+    sym (others a.script.now r.result c.in_default.not-Frame) ∙ r.ensures.part_is
 
 pub part_at-requires : goal.part_at-requires
 part_at-requires c =

@@ -11,16 +11,6 @@ use Rattle.script.proofs.Laws.Answers.{Stands, FrameTold, Told, front_told}
 use Rattle.script.proofs.Laws.Survey.{survey_long, Counted, count_start, count_frame, count_wait, count_end, count_refused}
 use Rattle.script.proofs.survey.survey_of.Goals as goal
 
-framed : (c : goal.In-Frame )
-    → FrameTold (Script c) c.loop-length.at
-    c.in-Frame.start c.in-Frame.length c.in-Frame.next
-framed c = rw c.in-Frame.is at (told c)
-
-waited : (c : goal.In-Wait )
-    → Stands (Script c) c.loop-length.at
-    (wait c.in-Wait.waited) c.in-Wait.next
-waited c = rw c.in-Wait.is at (told c)
-
 pub returns-then-script-gt-LONGEST_SCRIPT : goal.returns-then-script-gt-LONGEST_SCRIPT
 returns-then-script-gt-LONGEST_SCRIPT c = c.refused_survey.ensures ∙ sym (survey_long _ c.if-script-gt-LONGEST_SCRIPT.true)
 
@@ -28,19 +18,34 @@ pub loop-length-init : goal.loop-length-init
 loop-length-init c = count_start _ c.if-script-gt-LONGEST_SCRIPT.false
 
 pub overflow_add-output : goal.overflow_add-output
-overflow_add-output c = let t = framed c in omega (arith, t.long, t.stands.next_is, t.stands.inside)
+overflow_add-output c =
+    let told : Told (c.args.script.now) c.loop-length.at c.front_at-found.result = front_told (c.args.script.now) c.loop-length.at c.front_at-found.result c.front_at-found.ensures in
+    let framed : FrameTold (c.args.script.now) c.loop-length.at c.in-Frame.start c.in-Frame.length c.in-Frame.next = rw c.in-Frame.is at told in
+    let t = framed in omega (arith, t.long, t.stands.next_is, t.stands.inside)
 
 pub loop-length-smaller-in-Frame : goal.loop-length-smaller-in-Frame
-loop-length-smaller-in-Frame c = let s = (framed c).stands in omega (arith, s.next_is, s.least, s.inside)
+loop-length-smaller-in-Frame c =
+    let told : Told (c.args.script.now) c.loop-length.at c.front_at-found.result = front_told (c.args.script.now) c.loop-length.at c.front_at-found.result c.front_at-found.ensures in
+    let framed : FrameTold (c.args.script.now) c.loop-length.at c.in-Frame.start c.in-Frame.length c.in-Frame.next = rw c.in-Frame.is at told in
+    let s = framed.stands in omega (arith, s.next_is, s.least, s.inside)
 
 pub loop-length-preserved-in-Frame : goal.loop-length-preserved-in-Frame
-loop-length-preserved-in-Frame c = count_frame (framed c) c.loop-length.invariant
+loop-length-preserved-in-Frame c =
+    let told : Told (c.args.script.now) c.loop-length.at c.front_at-found.result = front_told (c.args.script.now) c.loop-length.at c.front_at-found.result c.front_at-found.ensures in
+    let framed : FrameTold (c.args.script.now) c.loop-length.at c.in-Frame.start c.in-Frame.length c.in-Frame.next = rw c.in-Frame.is at told in
+    count_frame framed c.loop-length.invariant
 
 pub loop-length-smaller : goal.loop-length-smaller
-loop-length-smaller c = let s = waited c in omega (arith, s.next_is, s.inside)
+loop-length-smaller c =
+    let told : Told (c.args.script.now) c.loop-length.at c.front_at-found.result = front_told (c.args.script.now) c.loop-length.at c.front_at-found.result c.front_at-found.ensures in
+    let waited : Stands (c.args.script.now) c.loop-length.at (wait c.in-Wait.waited) c.in-Wait.next = rw c.in-Wait.is at told in
+    let s = waited in omega (arith, s.next_is, s.inside)
 
 pub loop-length-preserved : goal.loop-length-preserved
-loop-length-preserved c = count_wait (omega arith) (waited c) c.loop-length.invariant
+loop-length-preserved c =
+    let told : Told (c.args.script.now) c.loop-length.at c.front_at-found.result = front_told (c.args.script.now) c.loop-length.at c.front_at-found.result c.front_at-found.ensures in
+    let waited : Stands (c.args.script.now) c.loop-length.at (wait c.in-Wait.waited) c.in-Wait.next = rw c.in-Wait.is at told in
+    count_wait (omega arith) waited c.loop-length.invariant
 
 pub returns-in-End : goal.returns-in-End
 returns-in-End c =

@@ -8,8 +8,10 @@ use Rattle.script.proofs.writer.put_frame.Goals as goal
 pub put_head-headed-requires : goal.put_head-headed-requires
 unfolding encode_record
 put_head-headed-requires c =
-    let begun : Whole c.args.at (encode_record (frame c.args.bytes.now)) c.args.buffer.now = left_start _ _ _ c.requires.bytes_in_bounds in
-    (c.requires.bytes_len_bound, left_room (frame_head (length c.args.bytes.now)) c.args.bytes.now begun)
+    let begun : Whole c.args.at (encode_record (frame c.args.bytes.now)) c.args.buffer.now = left_start _ _ _ c.requires.bytes_in_bounds in record {
+      n_le_longest_frame = c.requires.bytes_len_bound;
+      at_in_bounds = left_room (frame_head (length c.args.bytes.now)) c.args.bytes.now begun;
+    }
 
 pub put-requires : goal.put-requires
 unfolding encode_record

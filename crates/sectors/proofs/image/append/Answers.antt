@@ -52,9 +52,9 @@ returns-then-not-is_missing c =
     let told : c.is_missing.result ≡ is_missing (new c) (drop (length (front c)) c.args.image.now) = c.is_missing.ensures ∙ laid_missing (front c) (new c) _ _ _ _ (sym (long c)) (c.put_record-behind.ensures.behind ∙ ap (λ (l : List ℕ). c.args.end + length l) (sym (new_is c))) (first-laid c) (fits c) in
     laid_over (front (goal.at.returns-then-not-is_missing c).After-put_record-behind) (new (goal.at.returns-then-not-is_missing c).After-put_record-behind) (record_bytes true c.args.name.now) _ _ _ _ (sym (long (goal.at.returns-then-not-is_missing c).After-put_record-behind)) (first-laid (goal.at.returns-then-not-is_missing c).After-put_record-behind) (omega (arith, ap length (new_is (goal.at.returns-then-not-is_missing c).After-put_record-behind))) (omega (arith, fits (goal.at.returns-then-not-is_missing c).After-put_record-behind, ap length (new_is (goal.at.returns-then-not-is_missing c).After-put_record-behind))) c.put_record.ensures
     ∙ ap (λ (l : List ℕ). padded (front (goal.at.returns-then-not-is_missing c).After-put_record-behind ++ l)) (sym (records_one true _))
-    ∙ sym (wanted_second _ _ _ (sym told ∙ not-true _ c.if-not-is_missing.true))
+    ∙ sym (wanted_second _ _ _ (sym told ∙ c.if-not-is_missing.true))
 
 pub returns-else-not-is_missing : goal.returns-else-not-is_missing
 returns-else-not-is_missing c =
     let told : c.is_missing.result ≡ is_missing (new c) (drop (length (front c)) c.args.image.now) = c.is_missing.ensures ∙ laid_missing (front c) (new c) _ _ _ _ (sym (long c)) (c.put_record-behind.ensures.behind ∙ ap (λ (l : List ℕ). c.args.end + length l) (sym (new_is c))) (first-laid c) (fits c) in
-    first-laid (goal.at.returns-else-not-is_missing c).After-put_record-behind ∙ sym (wanted_first _ _ _ (sym told ∙ not-false _ c.if-not-is_missing.false))
+    first-laid (goal.at.returns-else-not-is_missing c).After-put_record-behind ∙ sym (wanted_first _ _ _ (sym told ∙ c.if-not-is_missing.false))

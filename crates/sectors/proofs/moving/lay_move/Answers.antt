@@ -17,9 +17,9 @@ put_read-requires c = (c.requires.2, c.requires.3)
 pub returns-then-not-is_missing : goal.returns-then-not-is_missing
 returns-then-not-is_missing c =
     laid_second _ _ _ _ _ _ _ c.requires.0 c.put_read-end.ensures c.if-end-gt-SECTOR.false _ c.is_missing.ensures _ _
-    (not-true _ c.if-not-is_missing.true) c.put_read.ensures
+    (c.if-not-is_missing.true) c.put_read.ensures
 
 pub returns-else-not-is_missing : goal.returns-else-not-is_missing
 returns-else-not-is_missing c =
     laid_first _ _ _ _ _ _ _ c.requires.0 c.put_read-end.ensures c.if-end-gt-SECTOR.false _ c.is_missing.ensures
-    (not-false _ c.if-not-is_missing.false)
+    (c.if-not-is_missing.false)

@@ -11,28 +11,33 @@ use Rattle.namelist.proofs.Laws.Listed.{good_count}
 use Rattle.sectors.proofs.Laws.Returning.{Returning, returning_start, returning_step, returning_marked, returning_counted, returning_used, returning_count}
 use Rattle.sectors.proofs.returning.mark_listed.Goals as goal
 
--- the record of this turn
-step : (c : goal.In-loop-size )
-    → Step c.args.image.now c.loop-size.at c.loop-size.size c.loop-size.invariant.done
-step c = returning_step _ _ _ _ _ _ _ c.loop-size.invariant c.loop-size-test.true
-
 pub loop-size-init : goal.loop-size-init
 loop-size-init c = returning_start _ _ _ _ c.record_at-size.ensures
 
 pub overflow_add-start : goal.overflow_add-start
-overflow_add-start c = omega (arith, (step c).size, (step c).ranges)
+overflow_add-start c =
+    let step : Step c.args.image.now c.loop-size.at c.loop-size.size c.loop-size.invariant.done = returning_step _ _ _ _ _ _ _ c.loop-size.invariant c.loop-size-test.true in
+    omega (arith, step.size, step.fits)
 
 pub overflow_add-at : goal.overflow_add-at
-overflow_add-at c = omega (arith, (step c).ranges)
+overflow_add-at c =
+    let step : Step c.args.image.now c.loop-size.at c.loop-size.size c.loop-size.invariant.done = returning_step _ _ _ _ _ _ _ c.loop-size.invariant c.loop-size-test.true in
+    omega (arith, step.fits)
 
 pub slice_bounds-position_of-count : goal.slice_bounds-position_of-count
-slice_bounds-position_of-count c = omega (arith, (step c).size)
+slice_bounds-position_of-count c =
+    let step : Step c.args.image.now c.loop-size.at c.loop-size.size c.loop-size.invariant.done = returning_step _ _ _ _ _ _ _ c.loop-size.invariant c.loop-size-test.true in
+    omega (arith, step.size)
 
 pub slice_bounds-position_of-start : goal.slice_bounds-position_of-start
-slice_bounds-position_of-start c = omega (arith, (step c).size)
+slice_bounds-position_of-start c =
+    let step : Step c.args.image.now c.loop-size.at c.loop-size.size c.loop-size.invariant.done = returning_step _ _ _ _ _ _ _ c.loop-size.invariant c.loop-size-test.true in
+    omega (arith, step.size)
 
 pub slice_bounds-position_of-end : goal.slice_bounds-position_of-end
-slice_bounds-position_of-end c = omega (arith, (step c).ranges)
+slice_bounds-position_of-end c =
+    let step : Step c.args.image.now c.loop-size.at c.loop-size.size c.loop-size.invariant.done = returning_step _ _ _ _ _ _ _ c.loop-size.invariant c.loop-size-test.true in
+    omega (arith, step.fits)
 
 pub position_of-scene-requires : goal.position_of-scene-requires
 position_of-scene-requires c = c.requires.1
@@ -51,24 +56,30 @@ mark_scene-requires c =
 
 pub overflow_add-unlisted : goal.overflow_add-unlisted
 overflow_add-unlisted c =
-    omega (arith, c.loop-size.invariant.few, (step (goal.at.overflow_add-unlisted c).In-loop-size).size, (step (goal.at.overflow_add-unlisted c).In-loop-size).ranges, c.requires.0)
+    let step : Step c.args.image.now c.loop-size.at c.loop-size.size c.loop-size.invariant.done = returning_step _ _ _ _ _ _ _ c.loop-size.invariant c.loop-size-test.true in
+    omega (arith, c.loop-size.invariant.few, step.size, step.fits, c.requires.0)
 
 pub record_at-size-requires-in-loop-size : goal.record_at-size-requires-in-loop-size
-record_at-size-requires-in-loop-size c = (step (goal.at.record_at-size-requires-in-loop-size c).In-loop-size).fits
+record_at-size-requires-in-loop-size c =
+    let step : Step c.args.image.now c.loop-size.at c.loop-size.size c.loop-size.invariant.done = returning_step _ _ _ _ _ _ _ c.loop-size.invariant c.loop-size-test.true in
+    step.fits
 
 pub loop-size-smaller : goal.loop-size-smaller
-loop-size-smaller c = omega (arith, (step (goal.at.loop-size-smaller c).In-loop-size).size, (step (goal.at.loop-size-smaller c).In-loop-size).ranges)
+loop-size-smaller c =
+    let step : Step c.args.image.now c.loop-size.at c.loop-size.size c.loop-size.invariant.done = returning_step _ _ _ _ _ _ _ c.loop-size.invariant c.loop-size-test.true in
+    omega (arith, step.size, step.fits)
 
 pub loop-size-preserved : goal.loop-size-preserved
 loop-size-preserved c =
     let counted : c.count-names.result ≡ length (names_in (listed c.args.list.now)) = c.count-names.ensures ∙ good_count c.args.list.now c.requires.1 in
+    let step : Step c.args.image.now c.loop-size.at c.loop-size.size c.loop-size.invariant.done = returning_step _ _ _ _ _ _ _ c.loop-size.invariant c.loop-size-test.true in
     let place = c.position_of-scene in
     let names = counted in
     ⊎_elim
     (λ w. rw (w.3 ∙ w.2.ensures, w.4)
-    (returning_marked _ _ _ _ _ _ _ c.loop-size.invariant (step (goal.at.loop-size-preserved c).In-loop-size) _ _ place.ensures c.record_at-size-in-loop-size.ensures (omega (arith, w.0.taken, names))))
+    (returning_marked _ _ _ _ _ _ _ c.loop-size.invariant step _ _ place.ensures c.record_at-size-in-loop-size.ensures (omega (arith, w.0.taken, names))))
     (λ w. rw (w.1, w.2)
-    (returning_counted _ _ _ _ _ _ _ c.loop-size.invariant (step (goal.at.loop-size-preserved c).In-loop-size) _ _ place.ensures c.record_at-size-in-loop-size.ensures (omega (arith, w.0.left, names))))
+    (returning_counted _ _ _ _ _ _ _ c.loop-size.invariant step _ _ place.ensures c.record_at-size-in-loop-size.ensures (omega (arith, w.0.left, names))))
     c.if-scene-names.branch
 
 pub returns : goal.returns

@@ -13,6 +13,7 @@ use Rattle.state.proofs.Laws.Clauses.{fails_at, denied, implies_fails, implies_h
 use Rattle.state.proofs.Laws.Soundness.{of_registers, busy_holds, busy_fails}
 use borrow.Author.Rules.{rules}
 use Rattle.state.proofs.soundness.registers_sound.Goals as goal
+use Rattle.state.proofs.soundness.registers_sound.Goals.{then-s-gt0+else-chip-s+else-s, else-s-gt0, then-s-2+else-s-3+else-not-chip-s, else-s-2}
 
 pub returns-then-not-is_known : goal.returns-then-not-is_known
 returns-then-not-is_known c = let s = c.args.s in fails_at 0 (register_clauses s) (sym c.is_known.ensures ∙ c.if-not-is_known.true)
@@ -30,7 +31,7 @@ pub returns-then-s-3 : goal.returns-then-s-3
 returns-then-s-3 c = let s = c.args.s in fails_at 6 (register_clauses s) (denied c.if-s-2.true (ap not c.if-s-3.true))
 
 pub returns-then-not-chip-s : goal.returns-then-not-chip-s
-returns-then-not-chip-s c = let s = c.args.s in fails_at 7 (register_clauses s) (denied c.if-s-2.true (not-true ((data_of s).ewsr || s.wel) (rw c.chip_of-chip.ensures at c.if-not-chip-s.true)))
+returns-then-not-chip-s c = let s = c.args.s in fails_at 7 (register_clauses s) (denied c.if-s-2.true (rw c.chip_of-chip.ensures at c.if-not-chip-s.true))
 
 pub returns-then-s-chip : goal.returns-then-s-chip
 returns-then-s-chip c = let s = c.args.s in fails_at 8 (register_clauses s) (implies_fails s.tb (data_of s).top_bottom (rw c.chip_of-chip.ensures at c.if-s-chip.true))
@@ -44,10 +45,10 @@ returns-then-s-chip-3 c = let s = c.args.s in fails_at 10 (register_clauses s) (
 pub returns : goal.returns
 returns c =
     let state_at : State = c.args.s in
-    let left-short : state_at.left ≤ (data_of state_at).chip_time = ⊎_elim (λ w. rw c.chip_of-chip.ensures at w.3.left) (λ w. omega arith) c.if-s-gt0.branch in
-    let while_busy : 0 < state_at.left → Busy state_at = λ h. ⊎_elim (λ w. busy_holds state_at w.7.left) (λ w. absurd (omega arith)) c.if-s-gt0.branch in
-    let armed_awake : state_at.armed ≡ true → state_at.power_down ≡ false = λ a. ⊎_elim (λ w. w.1.left) (λ w. absurd (true≢false (sym a ∙ w.left))) c.if-s-2.branch in
-    let armed_enabled : (data_of state_at).ewsr ≡ false → state_at.armed ≡ true → state_at.wel ≡ true = λ e a. let s = state_at in ⊎_elim (λ w. or_imp (data_of s).ewsr s.wel (not-false ((data_of s).ewsr || s.wel) (rw c.chip_of-chip.ensures at w.4.left)) e) (λ w. absurd (true≢false (sym a ∙ w.left))) c.if-s-2.branch in
+    let left-short : state_at.left ≤ (data_of state_at).chip_time = elim c.if-s-gt0.branch [ then-s-gt0+else-chip-s+else-s w ↦ rw c.chip_of-chip.ensures at w.if-chip-s.false | else-s-gt0 w ↦ omega arith ] in
+    let while_busy : 0 < state_at.left → Busy state_at = λ h. elim c.if-s-gt0.branch [ then-s-gt0+else-chip-s+else-s w ↦ busy_holds state_at w.if-s.false | else-s-gt0 w ↦ absurd (omega (arith, h, w.if-s-gt0.false)) ] in
+    let armed_awake : state_at.armed ≡ true → state_at.power_down ≡ false = λ a. elim c.if-s-2.branch [ then-s-2+else-s-3+else-not-chip-s w ↦ w.if-s-3.false | else-s-2 w ↦ absurd (true≢false (sym a ∙ w.if-s-2.false)) ] in
+    let armed_enabled : (data_of state_at).ewsr ≡ false → state_at.armed ≡ true → state_at.wel ≡ true = λ e a. let s = state_at in elim c.if-s-2.branch [ then-s-2+else-s-3+else-not-chip-s w ↦ or_imp (data_of s).ewsr s.wel (rw c.chip_of-chip.ensures at w.if-not-chip-s.false) e | else-s-2 w ↦ absurd (true≢false (sym a ∙ w.if-s-2.false)) ] in
     let s = state_at in
     let chip = c.chip_of-chip.ensures in
     let known = sym c.is_known.ensures ∙ c.if-not-is_known.false in
