@@ -1,12 +1,8 @@
 -- `text::put_decimals` meets its contract: the invariant says that with the numbers left the text will be as it is to be.
-use Prim.Native.Nat.{◌-◌, ◌≤◌, ◌<◌}
-use native.Mathlib.Omega.{arith}
+use Prim.Native.Nat.{◌-◌, ◌≤◌}
 use lib.ListN.{length, drop}
-use Rattle.common.proofs.Laws.Buffer.{Left, left_start}
-use Rattle.common.proofs.Laws.Each.{each_at}
-use Rattle.text.specs.Text.{decimal_end, decimals}
-use Rattle.text.proofs.Laws.Writing.{piece_room, piece_turn, piece_last, decimals_pieces}
-use borrow.Author.Rules.{rules}
+use Rattle.common.proofs.Laws.Buffer.{Left}
+use Rattle.text.specs.Text.{decimals}
 use Rattle.text.proofs.put_decimals.Given as goal
 
 abbrev pub invariant-loop-i : goal.invariant-loop-i

@@ -2,12 +2,14 @@
 use mathlib.Core.List.{[], ◌∷◌}
 use Rattle.text.specs.Text.{decimals}
 use Rattle.text.proofs.Laws.Writing.{told_room, feed_room, line_put}
-use borrow.Author.Rules.{rules}
 use Rattle.text.proofs.put_decimals_line.Goals as goal
 
 pub put_decimals-told-requires : goal.put_decimals-told-requires
 put_decimals-told-requires c =
-    (c.requires.each, told_room (c.args.letter ∷ []) (decimals c.args.numbers.now) c.requires.numbers_in_bounds c.put-begun.ensures)
+    record {
+      each = c.requires.each;
+      numbers_in_bounds = told_room (c.args.letter ∷ []) (decimals c.args.numbers.now) c.requires.numbers_in_bounds c.put-begun.ensures;
+    }
 
 pub put-requires : goal.put-requires
 put-requires c =

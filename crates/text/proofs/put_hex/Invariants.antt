@@ -1,10 +1,8 @@
 -- `text::put_hex` meets its contract: the invariant says that with the bytes left the text will be as it is to be.
 use Prim.Native.Nat.{◌-◌, ◌≤◌}
-use native.Mathlib.Omega.{arith}
 use lib.ListN.{length, drop}
-use Rattle.common.proofs.Laws.Buffer.{Left, left_start}
+use Rattle.common.proofs.Laws.Buffer.{Left}
 use Rattle.text.specs.Text.{hex}
-use Rattle.text.proofs.Laws.Writing.{piece_room, piece_turn, piece_last, hex_pieces}
 use Rattle.text.proofs.put_hex.Given as goal
 
 abbrev pub invariant-loop-i : goal.invariant-loop-i

@@ -2,7 +2,6 @@
 use mathlib.Core.List.{[], ◌∷◌}
 use Rattle.text.specs.Text.{hex}
 use Rattle.text.proofs.Laws.Writing.{told_room, feed_room, line_put}
-use borrow.Author.Rules.{rules}
 use Rattle.text.proofs.put_hex_line.Goals as goal
 
 pub put_hex-told-requires : goal.put_hex-told-requires

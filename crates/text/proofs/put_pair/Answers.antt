@@ -1,5 +1,4 @@
 -- `text::put_pair` meets its contract: the two digits are laid.
-use borrow.Author.Rules.{rules}
 use Rattle.text.proofs.put_pair.Goals as goal
 
 pub returns : goal.returns

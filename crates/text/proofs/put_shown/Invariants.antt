@@ -1,12 +1,8 @@
 -- `text::put_shown` meets its contract: the invariant says that with the bytes left the text will be as it is to be.
-use mathlib.Core.List.{List}
-use Prim.Native.Nat.{ℕ, ◌-◌, ◌≤◌}
-use native.Mathlib.Omega.{arith}
-use lib.ListN.{length, drop, get_or}
-use Rattle.common.proofs.Laws.Buffer.{Left, left_start}
-use Rattle.text.specs.Text.{shown_pair, shown_hex}
-use Rattle.text.proofs.Laws.Shown.{length_shown_pair}
-use Rattle.text.proofs.Laws.Writing.{Pieces, piece_room, piece_turn, piece_last, shown_pieces}
+use Prim.Native.Nat.{◌-◌, ◌≤◌}
+use lib.ListN.{length, drop}
+use Rattle.common.proofs.Laws.Buffer.{Left}
+use Rattle.text.specs.Text.{shown_hex}
 use Rattle.text.proofs.put_shown.Given as goal
 
 abbrev pub invariant-loop-i : goal.invariant-loop-i

@@ -1,7 +1,6 @@
 -- `text::put_shown_pair` meets its contract: the dashes are laid, or the two digits, by whether the byte was driven.
 use native.Mathlib.Omega.{arith}
 use borrow.Author.Tests.{eq-eqb, ne_eqb}
-use borrow.Author.Rules.{rules}
 use Rattle.text.proofs.put_shown_pair.Goals as goal
 
 pub returns-then-driven-eq0 : goal.returns-then-driven-eq0

@@ -2,7 +2,6 @@
 use mathlib.Core.List.{[], ◌∷◌}
 use Rattle.text.specs.Text.{decimal}
 use Rattle.text.proofs.Laws.Writing.{both_put}
-use borrow.Author.Rules.{rules}
 use Rattle.text.proofs.put_spaced.Goals as goal
 
 pub returns : goal.returns
