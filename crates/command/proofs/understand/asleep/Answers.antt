@@ -6,6 +6,3 @@ use Rattle.command.proofs.understand.asleep.Goals as goal
 
 pub returns-in-171 : goal.returns-in-171
 returns-in-171 c = yes _ (eq-eqb _ 171 c.in-171.is) refl
-
-pub returns-in_default : goal.returns-in_default
-returns-in_default c = no _ (ne_eqb _ 171 c.in_default.rest.1) refl

@@ -20,4 +20,4 @@ returns-in-4 c = rw c.in-4.is c.alone.ensures
 
 pub returns-in_default : goal.returns-in_default
 unfolding in_aai
-returns-in_default c = let r = c.in_default.rest in no _ (ne_eqb _ 173 r.0.0.1) (no _ (ne_eqb _ 5 r.0.1) (no _ (ne_eqb _ 4 r.1) refl))
+returns-in_default c = let r = c.in_default.in_default-own.rest in no _ (ne_eqb _ 173 r.0.0.1) (no _ (ne_eqb _ 5 r.0.1) (no _ (ne_eqb _ 4 r.1) refl))

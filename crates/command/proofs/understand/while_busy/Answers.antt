@@ -6,6 +6,3 @@ use Rattle.command.proofs.understand.while_busy.Goals as goal
 
 pub returns-in-5 : goal.returns-in-5
 returns-in-5 c = yes _ (eq-eqb _ 5 c.in-5.is) refl
-
-pub returns-in_default : goal.returns-in_default
-returns-in_default c = no _ (ne_eqb _ 5 c.in_default.rest.1) refl
