@@ -1,10 +1,6 @@
 -- `pages::behind_last` meets its contract: nothing changes at the addresses passed.
-use mathlib.Core.Path.{◌≡◌, sym, ◌∙◌}
-use mathlib.Core.Bool.{false}
-use Prim.Native.Nat.{ℕ, ◌-◌, ◌≤◌, ◌<◌}
+use mathlib.Core.Path.{sym, ◌∙◌}
 use native.Mathlib.Omega.{arith}
-use borrow.Author.Rules.{rules}
-use Rattle.region.specs.Region.{changes}
 use Rattle.pages.proofs.Laws.Spans.{above_more}
 use Rattle.pages.proofs.behind_last.Goals as goal
 

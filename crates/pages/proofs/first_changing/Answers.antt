@@ -1,10 +1,6 @@
 -- `pages::first_changing` meets its contract: nothing changes at the addresses passed.
-use mathlib.Core.Path.{◌≡◌, sym, ◌∙◌}
-use mathlib.Core.Bool.{false}
-use Prim.Native.Nat.{ℕ, ◌-◌, ◌≤◌, ◌<◌}
+use mathlib.Core.Path.{sym, ◌∙◌}
 use native.Mathlib.Omega.{arith}
-use borrow.Author.Rules.{rules}
-use Rattle.region.specs.Region.{changes}
 use Rattle.pages.proofs.Laws.Spans.{below_more}
 use Rattle.pages.proofs.first_changing.Goals as goal
 

@@ -1,11 +1,8 @@
 -- `pages::first_changing` meets its contract: nothing changes at the addresses passed.
-use mathlib.Core.Path.{◌≡◌, sym, ◌∙◌}
+use mathlib.Core.Path.{◌≡◌}
 use mathlib.Core.Bool.{false}
 use Prim.Native.Nat.{ℕ, ◌-◌, ◌≤◌, ◌<◌}
-use native.Mathlib.Omega.{arith}
-use borrow.Author.Rules.{rules}
 use Rattle.region.specs.Region.{changes}
-use Rattle.pages.proofs.Laws.Spans.{below_more}
 use Rattle.pages.proofs.first_changing.Given as goal
 
 abbrev pub invariant-loop-address : goal.invariant-loop-address

@@ -1,14 +1,8 @@
 -- `pages::measure_pages` meets its contract: the invariant adds what has been counted and what is left to count.
 use mathlib.Core.Path.{sym}
-use Prim.Native.Nat.{◌+◌, ◌-◌, ◌*◌, ◌/◌, ◌≤◌}
 use native.Mathlib.Omega.{arith}
-use lib.ListN.{length}
-use borrow.Author.Rules.{rules}
-use Rattle.region.specs.Region.{changes}
-use Rattle.pages.specs.Pages.{pages_in}
-use Rattle.pages.specs.Parts.{page_count, byte_count}
 use Rattle.pages.proofs.Laws.Pages.{pages_step_measure}
-use Rattle.pages.proofs.Laws.Walk.{Counting, counting_start, counting_turn, counting_end}
+use Rattle.pages.proofs.Laws.Walk.{counting_start, counting_turn, counting_end}
 use Rattle.pages.proofs.measure_pages.Goals as goal
 
 pub overflow_add-end : goal.overflow_add-end
@@ -22,9 +16,9 @@ loop-page-init c = (omega arith, counting_start _ _ _ c.requires.short)
 
 pub page_part-part-requires : goal.page_part-part-requires
 page_part-part-requires c = record {
-      inside = c.requires;
-      start_bound = (omega arith, omega arith);
-    }
+  inside = c.requires;
+  start_bound = (omega arith, omega arith);
+}
 
 pub overflow_add-pages : goal.overflow_add-pages
 overflow_add-pages c = omega (arith, counting_turn c.loop-page.invariant.1 c.loop-page-test.true c.page_part-part.ensures)

@@ -1,14 +1,10 @@
 -- `pages::measure_pages` meets its contract: the invariant adds what has been counted and what is left to count.
-use mathlib.Core.Path.{sym}
 use Prim.Native.Nat.{◌+◌, ◌-◌, ◌*◌, ◌/◌, ◌≤◌}
-use native.Mathlib.Omega.{arith}
 use lib.ListN.{length}
-use borrow.Author.Rules.{rules}
 use Rattle.region.specs.Region.{changes}
 use Rattle.pages.specs.Pages.{pages_in}
 use Rattle.pages.specs.Parts.{page_count, byte_count}
-use Rattle.pages.proofs.Laws.Pages.{pages_step_measure}
-use Rattle.pages.proofs.Laws.Walk.{Counting, counting_start, counting_turn, counting_end}
+use Rattle.pages.proofs.Laws.Walk.{Counting}
 use Rattle.pages.proofs.measure_pages.Given as goal
 
 abbrev pub invariant-loop-page : goal.invariant-loop-page

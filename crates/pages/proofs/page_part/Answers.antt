@@ -1,6 +1,5 @@
 -- `pages::page_part` meets its contract: outside the region nothing of the page changes.
 use native.Mathlib.Omega.{arith}
-use borrow.Author.Rules.{rules}
 use Rattle.region.proofs.Laws.Region.{changes_before, changes_behind}
 use Rattle.pages.proofs.Laws.Parts.{page_part}
 use Rattle.pages.proofs.page_part.Goals as goal

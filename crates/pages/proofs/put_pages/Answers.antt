@@ -1,12 +1,11 @@
 -- `pages::put_pages` meets its contract: the invariant says that with the pages left the buffer will be as it is to be.
-use mathlib.Core.Path.{◌≡◌}
-use Prim.Native.Nat.{◌+◌, ◌-◌, ◌*◌, ◌/◌, ◌%◌, ◌≤◌}
+use Prim.Native.Nat.{◌-◌}
 use native.Mathlib.Omega.{arith}
 use Rattle.script.specs.Record.{encode}
-use Rattle.region.specs.Region.{wanted_at, changes}
-use Rattle.common.proofs.Laws.Buffer.{Left, left_start, left_room, left_turn, left_none}
-use Rattle.pages.specs.Pages.{part_records, pages_step}
-use Rattle.pages.proofs.Laws.Walk.{pages_left, pages_start, pages_turn, pages_end}
+use Rattle.region.specs.Region.{wanted_at}
+use Rattle.common.proofs.Laws.Buffer.{left_start, left_room, left_turn, left_none}
+use Rattle.pages.specs.Pages.{part_records}
+use Rattle.pages.proofs.Laws.Walk.{pages_start, pages_turn, pages_end}
 use Rattle.pages.proofs.put_pages.Goals as goal
 
 pub overflow_add-end : goal.overflow_add-end
@@ -20,9 +19,9 @@ loop-page-init c = (omega arith, omega arith, left_start _ _ _ (rw (pages_start 
 
 pub page_part-requires : goal.page_part-requires
 page_part-requires c = record {
-      inside = c.requires.inside;
-      start_bound = (omega arith, omega arith);
-    }
+  inside = c.requires.inside;
+  start_bound = (omega arith, omega arith);
+}
 
 pub put_part-next-requires : goal.put_part-next-requires
 put_part-next-requires c =

@@ -1,12 +1,11 @@
 -- `pages::put_pages` meets its contract: the invariant says that with the pages left the buffer will be as it is to be.
 use mathlib.Core.Path.{◌≡◌}
 use Prim.Native.Nat.{◌+◌, ◌-◌, ◌*◌, ◌/◌, ◌%◌, ◌≤◌}
-use native.Mathlib.Omega.{arith}
 use Rattle.script.specs.Record.{encode}
 use Rattle.region.specs.Region.{wanted_at, changes}
-use Rattle.common.proofs.Laws.Buffer.{Left, left_start, left_room, left_turn, left_none}
-use Rattle.pages.specs.Pages.{part_records, pages_step}
-use Rattle.pages.proofs.Laws.Walk.{pages_left, pages_start, pages_turn, pages_end}
+use Rattle.common.proofs.Laws.Buffer.{Left}
+use Rattle.pages.specs.Pages.{pages_step}
+use Rattle.pages.proofs.Laws.Walk.{pages_left}
 use Rattle.pages.proofs.put_pages.Given as goal
 
 abbrev pub invariant-loop-page : goal.invariant-loop-page

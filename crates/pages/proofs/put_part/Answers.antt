@@ -4,7 +4,6 @@ use mathlib.Core.List.{[], ◌∷◌}
 use Prim.Native.Nat.{◌-◌}
 use native.Mathlib.Omega.{arith}
 use lib.ListN.{take, drop}
-use borrow.Author.Rules.{rules}
 use Rattle.script.specs.Record.{frame, encode_record, encode, frame_head}
 use Rattle.region.specs.Region.{wanted_at}
 use Rattle.common.specs.Numbers.{address_bytes}
@@ -14,7 +13,9 @@ use Rattle.pages.specs.Pages.{part_records}
 use Rattle.pages.proofs.Laws.Parts.{part_bytes, part_bytes_lem}
 use Rattle.pages.proofs.put_part.Goals as goal
 
-returns c = let e : c.before.before.before.args.part.to - c.before.before.before.args.part.from ≡ 0 = omega arith in rw (e, encode_none) (put_none _ _)
+pub returns-then-from-to : goal.returns-then-from-to
+unfolding part_records
+returns-then-from-to c = let e : c.args.part.to - c.args.part.from ≡ 0 = omega arith in rw (e, encode_none) (put_none _ _)
 
 pub put_frame-enabled-requires : goal.put_frame-enabled-requires
 put_frame-enabled-requires c =

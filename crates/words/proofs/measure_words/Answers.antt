@@ -1,15 +1,8 @@
 -- `words::measure_words` meets its contract: the invariant adds what has been counted and what is left to count.
 use mathlib.Core.Path.{sym}
-use mathlib.Core.Bool.{false}
-use Prim.Native.Nat.{◌-◌, ◌*◌, ◌/◌}
 use native.Mathlib.Omega.{arith}
-use lib.ListN.{length}
-use borrow.Author.Rules.{rules}
-use Rattle.region.specs.Region.{changes}
-use Rattle.words.specs.Words.{words_in}
-use Rattle.words.specs.Walk.{word_count, run_count}
 use Rattle.words.proofs.Laws.Words.{words_step_measure}
-use Rattle.words.proofs.Laws.Walk.{Counting, counting_start, counting_turn, counting_end}
+use Rattle.words.proofs.Laws.Walk.{counting_start, counting_turn, counting_end}
 use Rattle.words.proofs.measure_words.Goals as goal
 
 pub overflow_add-end : goal.overflow_add-end
@@ -23,9 +16,9 @@ loop-word-init c = counting_start _ _ _ c.requires.short
 
 pub word_changes-changes-requires : goal.word_changes-changes-requires
 word_changes-changes-requires c = record {
-      inside = c.requires;
-      address_in_bounds = omega arith;
-    }
+  inside = c.requires;
+  address_in_bounds = omega arith;
+}
 
 pub overflow_add-words : goal.overflow_add-words
 overflow_add-words c = omega (arith, counting_turn c.loop-word.invariant c.loop-word-test.true c.word_changes-changes.ensures)

@@ -1,15 +1,11 @@
 -- `words::measure_words` meets its contract: the invariant adds what has been counted and what is left to count.
-use mathlib.Core.Path.{sym}
 use mathlib.Core.Bool.{false}
 use Prim.Native.Nat.{◌-◌, ◌*◌, ◌/◌}
-use native.Mathlib.Omega.{arith}
 use lib.ListN.{length}
-use borrow.Author.Rules.{rules}
 use Rattle.region.specs.Region.{changes}
 use Rattle.words.specs.Words.{words_in}
 use Rattle.words.specs.Walk.{word_count, run_count}
-use Rattle.words.proofs.Laws.Words.{words_step_measure}
-use Rattle.words.proofs.Laws.Walk.{Counting, counting_start, counting_turn, counting_end}
+use Rattle.words.proofs.Laws.Walk.{Counting}
 use Rattle.words.proofs.measure_words.Given as goal
 
 abbrev pub invariant-loop-word : goal.invariant-loop-word

@@ -1,7 +1,6 @@
 -- `words::put_first` meets its contract: its records are laid one behind the other.
 use mathlib.Core.Bool.{true, false}
 use native.Mathlib.Omega.{arith}
-use borrow.Author.Rules.{rules}
 use Rattle.script.specs.Record.{encode}
 use Rattle.region.specs.Region.{wanted_at}
 use Rattle.common.proofs.Laws.Buffer.{Whole, left_start}

@@ -1,7 +1,6 @@
 -- `words::put_further` meets its contract: its records are laid one behind the other.
 use mathlib.Core.Bool.{true}
 use native.Mathlib.Omega.{arith}
-use borrow.Author.Rules.{rules}
 use Rattle.script.specs.Record.{encode}
 use Rattle.region.specs.Region.{wanted_at}
 use Rattle.common.proofs.Laws.Buffer.{Whole, left_start}

@@ -1,7 +1,6 @@
 -- `words::put_word` meets its contract: each of the four cases lays its records.
 use mathlib.Core.Bool.{true, false}
 use native.Mathlib.Omega.{arith}
-use borrow.Author.Rules.{rules}
 use Rattle.script.specs.Record.{encode}
 use Rattle.region.specs.Region.{wanted_at}
 use Rattle.common.proofs.Laws.Buffer.{Whole, left_start, put_none}
@@ -12,15 +11,15 @@ use Rattle.words.proofs.put_word.Goals as goal
 
 pub put_further-requires : goal.put_further-requires
 put_further-requires c = record {
-      address_bound = c.requires.address_bound;
-      address_in_bounds = rw (c.if-running.true, c.if-changes.true) at c.requires.address_in_bounds;
-    }
+  address_bound = c.requires.address_bound;
+  address_in_bounds = rw (c.if-running.true, c.if-changes.true) at c.requires.address_in_bounds;
+}
 
 pub put_first-requires : goal.put_first-requires
 put_first-requires c = record {
-      address_bound = c.requires.address_bound;
-      address_in_bounds = rw (c.if-running.false, c.if-changes.true) at c.requires.address_in_bounds;
-    }
+  address_bound = c.requires.address_bound;
+  address_in_bounds = rw (c.if-running.false, c.if-changes.true) at c.requires.address_in_bounds;
+}
 
 pub put_frame-requires : goal.put_frame-requires
 unfolding word_records

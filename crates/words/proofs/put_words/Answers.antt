@@ -1,13 +1,10 @@
 -- `words::put_words` meets its contract: the invariant says that with the words left the buffer will be as it is to be.
-use mathlib.Core.Path.{◌≡◌, ◌∙◌}
-use mathlib.Core.Bool.{false}
-use Prim.Native.Nat.{◌+◌, ◌-◌, ◌*◌, ◌/◌, ◌%◌, ◌≤◌}
 use native.Mathlib.Omega.{arith}
 use Rattle.script.specs.Record.{encode}
-use Rattle.region.specs.Region.{wanted_at, changes}
-use Rattle.common.proofs.Laws.Buffer.{Left, left_start, left_room, left_turn, left_fits, left_last}
-use Rattle.words.specs.Walk.{word_records, words}
-use Rattle.words.proofs.Laws.Walk.{words_left, words_start, words_turn, words_end}
+use Rattle.region.specs.Region.{wanted_at}
+use Rattle.common.proofs.Laws.Buffer.{left_start, left_room, left_turn, left_fits, left_last}
+use Rattle.words.specs.Walk.{word_records}
+use Rattle.words.proofs.Laws.Walk.{words_start, words_turn, words_end}
 use Rattle.words.proofs.put_words.Goals as goal
 
 pub overflow_add-end : goal.overflow_add-end
@@ -21,9 +18,9 @@ loop-address-init c = (omega arith, omega arith, left_start _ _ _ (rw (words_sta
 
 pub word_changes-changes-requires : goal.word_changes-changes-requires
 word_changes-changes-requires c = record {
-      inside = c.requires.inside;
-      address_in_bounds = omega arith;
-    }
+  inside = c.requires.inside;
+  address_in_bounds = omega arith;
+}
 
 pub put_word-next-requires : goal.put_word-next-requires
 put_word-next-requires c =
@@ -54,9 +51,6 @@ put_word-requires c =
       address_bound = omega arith;
       address_in_bounds = left_fits (rw (words_end _ _ _ _ _ l.invariant.0 c.loop-address-test.false) at l.invariant.2);
     }
-
-pub shape_of-buffer : goal.shape_of-buffer
-shape_of-buffer c = c.put_word.auto.1.1.1.1.1.0 ∙ c.loop-address.invariant.2.long
 
 pub returns : goal.returns
 returns c =

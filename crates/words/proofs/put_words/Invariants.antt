@@ -1,13 +1,12 @@
 -- `words::put_words` meets its contract: the invariant says that with the words left the buffer will be as it is to be.
-use mathlib.Core.Path.{◌≡◌, ◌∙◌}
+use mathlib.Core.Path.{◌≡◌}
 use mathlib.Core.Bool.{false}
 use Prim.Native.Nat.{◌+◌, ◌-◌, ◌*◌, ◌/◌, ◌%◌, ◌≤◌}
-use native.Mathlib.Omega.{arith}
 use Rattle.script.specs.Record.{encode}
 use Rattle.region.specs.Region.{wanted_at, changes}
-use Rattle.common.proofs.Laws.Buffer.{Left, left_start, left_room, left_turn, left_fits, left_last}
-use Rattle.words.specs.Walk.{word_records, words}
-use Rattle.words.proofs.Laws.Walk.{words_left, words_start, words_turn, words_end}
+use Rattle.common.proofs.Laws.Buffer.{Left}
+use Rattle.words.specs.Walk.{words}
+use Rattle.words.proofs.Laws.Walk.{words_left}
 use Rattle.words.proofs.put_words.Given as goal
 
 abbrev pub invariant-loop-address : goal.invariant-loop-address

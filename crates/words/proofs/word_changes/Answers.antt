@@ -1,6 +1,5 @@
 -- `words::word_changes` meets its contract: it is the two bytes' tests.
 use mathlib.Core.Path.{refl}
-use borrow.Author.Rules.{rules}
 use Rattle.words.proofs.word_changes.Goals as goal
 
 pub returns : goal.returns

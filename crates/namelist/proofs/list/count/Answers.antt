@@ -4,20 +4,10 @@ use Prim.Native.Nat.{◌-◌, ◌<◌}
 use native.Mathlib.Omega.{arith}
 use lib.Dec.{eqb, leb}
 use lib.ListN.{length}
-use borrow.Author.Rules.{rules}
-use borrow.Author.Tests.{eqb-true, eqb-false, leb-true, leb-false, not-true, not-false}
+use borrow.Author.Tests.{eqb-true, eqb-false, leb-true, leb-false}
 use Rattle.common.proofs.Laws.Booleans.{or_imp, or_none_l, or_none_r}
 use Rattle.common.proofs.Laws.Choice.{cases}
-use Rattle.namelist.proofs.Laws.Counted.{
-  Counting,
-  counting_start,
-  counting_full,
-  counting_cut,
-  counting_inside,
-  counting_bad,
-  counting_turn,
-  counting_end,
-}
+use Rattle.namelist.proofs.Laws.Counted.{counting_start, counting_full, counting_cut, counting_inside, counting_bad, counting_turn, counting_end}
 use Rattle.namelist.proofs.list.count.Goals as goal
 
 pub loop-at-init : goal.loop-at-init

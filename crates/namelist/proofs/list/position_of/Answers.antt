@@ -1,18 +1,7 @@
 -- `namelist::list::position_of` meets its contract: none of the names passed is the one, so its position is theirs and that among the names left.
 use mathlib.Core.Path.{sym, ◌∙◌}
-use Prim.Native.Nat.{◌-◌}
 use native.Mathlib.Omega.{arith}
-use lib.ListN.{length}
-use borrow.Author.Rules.{rules}
-use Rattle.namelist.proofs.Laws.Position.{
-  Seeking,
-  seeking_start,
-  seeking_inside,
-  seeking_fits,
-  seeking_found,
-  seeking_turn,
-  seeking_end,
-}
+use Rattle.namelist.proofs.Laws.Position.{seeking_start, seeking_inside, seeking_fits, seeking_found, seeking_turn, seeking_end}
 use Rattle.namelist.proofs.list.position_of.Goals as goal
 
 pub loop-at-init : goal.loop-at-init

@@ -1,10 +1,7 @@
 -- `namelist::twice::has_print` meets its contract: the print is found among those passed, or the answer is that of those left.
 use mathlib.Core.Path.{refl}
-use Prim.Native.Nat.{◌-◌}
 use native.Mathlib.Omega.{arith}
-use lib.ListN.{length}
-use borrow.Author.Rules.{rules}
-use Rattle.namelist.proofs.Laws.Prints.{Sought, sought_turn, sought_end}
+use Rattle.namelist.proofs.Laws.Prints.{sought_turn, sought_end}
 use Rattle.namelist.proofs.twice.has_print.Goals as goal
 
 pub loop-i-init : goal.loop-i-init

@@ -1,26 +1,12 @@
 -- `namelist::twice::has_twice` meets its contract: the names passed stand once each, and the next is one of them only if its print is one of theirs.
 use mathlib.Core.Path.{refl, sym, ◌∙◌}
-use mathlib.Core.Logic.{⊎_elim}
-use Prim.Native.Nat.{◌-◌, ◌≤◌}
+use Prim.Native.Nat.{◌≤◌}
 use native.Mathlib.Omega.{arith}
 use lib.ListN.{length}
 use lib.Seq.{length-take-le}
-use borrow.Author.Rules.{rules}
-use Rattle.namelist.proofs.Laws.Comparing.{
-  Comparing,
-  comparing_start,
-  comparing_front,
-  comparing_inside,
-  comparing_most,
-  comparing_room,
-  comparing_fits,
-  comparing_found,
-  new_by_print,
-  new_by_position,
-  comparing_turn,
-  comparing_end,
-}
+use Rattle.namelist.proofs.Laws.Comparing.{comparing_start, comparing_front, comparing_inside, comparing_most, comparing_room, comparing_fits, comparing_found, new_by_print, new_by_position, comparing_turn, comparing_end}
 use Rattle.namelist.proofs.twice.has_twice.Goals as goal
+use Rattle.namelist.proofs.twice.has_twice.Goals.{then-has_print+else-position_of-names, else-has_print}
 
 pub loop-at-init : goal.loop-at-init
 loop-at-init c = comparing_start c.args.list.now _ c.requires refl
@@ -102,10 +88,10 @@ loop-at-preserved c =
     let e = c.name_at-name.ensures in
     rw p.ensures
     (comparing_turn list l.prints l.at l.names l.invariant h _ e
-    (⊎_elim
-    (λ w. new_by_position list l.prints l.at l.names l.invariant h _ e (omega (arith, w.2.ensures, w.3.left)))
-    (λ w. new_by_print list l.prints l.at l.names l.invariant h _ e (rw p.ensures at (sym c.has_print.ensures ∙ w.left)))
-    c.if-has_print.branch))
+    (elim c.if-has_print.branch [
+      | then-has_print+else-position_of-names w ↦ new_by_position list l.prints l.at l.names l.invariant h _ e (omega (arith, w.position_of.ensures, w.if-position_of-names.false))
+      | else-has_print w ↦ new_by_print list l.prints l.at l.names l.invariant h _ e (rw p.ensures at (sym c.has_print.ensures ∙ w.if-has_print.false))
+    ]))
 
 pub returns : goal.returns
 returns c =

@@ -1,10 +1,6 @@
 -- `namelist::twice::print_of` meets its contract: the invariant says that going on from here gives the print of the whole name.
-use mathlib.Core.Path.{◌≡◌, sym, ◌∙◌}
-use Prim.Native.Nat.{◌-◌, ◌≤◌, ◌<◌}
+use mathlib.Core.Path.{sym, ◌∙◌}
 use native.Mathlib.Omega.{arith}
-use lib.ListN.{length, drop}
-use borrow.Author.Rules.{rules}
-use Rattle.namelist.specs.Twice.{print_from, print_of}
 use Rattle.namelist.proofs.Laws.Prints.{print_start, print_turn, print_end}
 use Rattle.namelist.proofs.twice.print_of.Goals as goal
 
