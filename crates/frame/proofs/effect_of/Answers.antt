@@ -1,4 +1,5 @@
 -- `frame::effect_of` meets its contract: each arm is its command's effect, and the last arm's commands have none.
+use borrow.Enum.Refused.{opened}
 use mathlib.Core.Path.{◌≡◌, refl, sym}
 use mathlib.Core.List.{List, [], ◌∷◌}
 use Prim.Native.Nat.{ℕ}
@@ -46,4 +47,4 @@ pub returns-in-ProgramWord : goal.returns-in-ProgramWord
 returns-in-ProgramWord c = rw c.in-ProgramWord.is refl
 
 pub returns-in_default : goal.returns-in_default
-returns-in_default c = sym (others c.args.c c.in_default.keys5)
+returns-in_default c = sym (others c.args.c (opened c.in_default.in_default-own.keys5))

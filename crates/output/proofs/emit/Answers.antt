@@ -1,4 +1,5 @@
 -- `output::emit` meets its contract: a read of the array in runs, every other command byte by byte until it no longer changes.
+use borrow.Enum.Refused.{opened}
 use mathlib.Core.List.{List, [], ◌∷◌}
 use Prim.Native.Nat.{ℕ, ◌+◌, ◌-◌, ◌%◌}
 use native.Mathlib.Omega.{arith}
@@ -21,7 +22,7 @@ show_array-requires c =
 
 pub show_each-requires : goal.show_each-requires
 show_each-requires c =
-    let told = c.in_default.keys2 in
+    let told = (opened c.in_default.in_default-own.keys2) in
     (λ address silent e. miss others 2 tt (rw e at told), c.requires.3)
 
 pub returns-in-ReadArray : goal.returns-in-ReadArray
@@ -30,7 +31,9 @@ returns-in-ReadArray c =
     let a = c.args in
     let shown = rw c.requires.1 at c.show_array.ensures in
     let byte : ℕ → ℕ = λ i. memory a.array.now ((c.in-ReadArray.from + (i - c.in-ReadArray.at)) % (data_of a.s).size) in
-    rw c.in-ReadArray.is (shown, rw c.requires.3 at (c.drive_since.ensures byte))
+    rw c.in-ReadArray.is record { output_after = shown; driven_after = rw c.requires.3 at (c.drive_since.ensures byte) }
 
 pub returns-in_default : goal.returns-in_default
-returns-in_default c = c.show_each.ensures (memory c.args.array.now)
+returns-in_default c =
+    let shown = c.show_each.ensures (memory c.args.array.now) in
+    record { output_after = shown.0; driven_after = shown.1 }

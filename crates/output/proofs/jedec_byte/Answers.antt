@@ -14,4 +14,4 @@ pub returns-in-3 : goal.returns-in-3
 returns-in-3 c = rw c.in-3.is refl
 
 pub returns-in_default : goal.returns-in_default
-returns-in_default c = let r = c.in_default.rest in no _ (ne_eqb _ 1 r.0.0.1) (no _ (ne_eqb _ 2 r.0.1) (no _ (ne_eqb _ 3 r.1) refl))
+returns-in_default c = let r = c.in_default.in_default-own.rest in no _ (ne_eqb _ 1 r.0.0.1) (no _ (ne_eqb _ 2 r.0.1) (no _ (ne_eqb _ 3 r.1) refl))

@@ -8,4 +8,4 @@ pub returns : goal.returns
 returns c =
     let a = c.args in
     rw (c.copy_run-2.ensures, c.copy_run.ensures, c.fill_run.ensures, c.smaller.ensures, c.smaller-head.ensures)
-    (read_in_runs (length a.array.now) a.from a.at a.array.now a.output.now c.pre.0 c.pre.1)
+    (read_in_runs (length a.array.now) a.from a.at a.array.now a.output.now c.requires.0 c.requires.1)

@@ -22,8 +22,8 @@ loop-i-init c =
       c.requires.1,
       refl,
       refl,
-      λ m. loop_start (λ k x. (λ m k. byte_of (shown_at c.args.s c.args.c m k)) m k) c.args.output.now 0 (λ k x h. absurd (not-suc-le-zero h)),
-      λ m. loop_start (λ k x. (λ m k. driven_of (shown_at c.args.s c.args.c m k)) m k) c.args.driven.now 0 (λ k x h. absurd (not-suc-le-zero h)),
+      λ m. loop_start (λ k x. byte_of (shown_at c.args.s c.args.c m k)) c.args.output.now 0 (λ k x h. absurd (not-suc-le-zero h)),
+      λ m. loop_start (λ k x. driven_of (shown_at c.args.s c.args.c m k)) c.args.driven.now 0 (λ k x h. absurd (not-suc-le-zero h)),
     )
 
 pub shown_at-shown-requires : goal.shown_at-shown-requires
@@ -43,9 +43,9 @@ returns-then-i-to c =
     let byte = c.byte_of.ensures ∙ ap byte_of shown in
     let mark = c.driven_of.ensures ∙ ap driven_of shown in (
       rw (c.fill_run.ensures, byte, rw here at (told.invariant.5 m))
-          (laid_by_run ((λ m k. byte_of (shown_at c.args.s c.args.c m k)) m) a.output.now to (λ i l h. ap byte_of (same i l h))),
+          (laid_by_run (λ k. byte_of (shown_at c.args.s c.args.c m k)) a.output.now to (λ i l h. ap byte_of (same i l h))),
       rw (c.fill_run-then-i-to.ensures, mark, rw here at (told.invariant.6 m), ← long)
-          (laid_by_run ((λ m k. driven_of (shown_at c.args.s c.args.c m k)) m) a.driven.now to (λ i l h. ap driven_of (same i l (omega (arith, h, long))))),
+          (laid_by_run (λ k. driven_of (shown_at c.args.s c.args.c m k)) a.driven.now to (λ i l h. ap driven_of (same i l (omega (arith, h, long))))),
     )
 
 pub loop-i-preserved : goal.loop-i-preserved
@@ -59,6 +59,6 @@ loop-i-preserved c =
       told.invariant.2,
       simp length-set told.invariant.3,
       simp length-set told.invariant.4,
-      λ m. rw (byte, shown m) (loop_turn (λ k x. (λ m k. byte_of (shown_at c.args.s c.args.c m k)) m k) c.args.output.now told.output told.i (omega arith) (told.invariant.5 m)),
-      λ m. rw (mark, shown m) (loop_turn (λ k x. (λ m k. driven_of (shown_at c.args.s c.args.c m k)) m k) c.args.driven.now told.driven told.i (omega arith) (told.invariant.6 m)),
+      λ m. rw (byte, shown m) (loop_turn (λ k x. byte_of (shown_at c.args.s c.args.c m k)) c.args.output.now told.output told.i (omega arith) (told.invariant.5 m)),
+      λ m. rw (mark, shown m) (loop_turn (λ k x. driven_of (shown_at c.args.s c.args.c m k)) c.args.driven.now told.driven told.i (omega arith) (told.invariant.6 m)),
     )

@@ -1,4 +1,5 @@
 -- `output::shown_at` meets its contract: each arm shows its command's byte, and the last arm's commands show none.
+use borrow.Enum.Refused.{opened}
 use mathlib.Core.Path.{refl, sym, ap}
 use borrow.Author.Tests.{lt-ltb, le-ltb}
 use Rattle.common.proofs.Laws.Choice.{yes, no}
@@ -42,4 +43,4 @@ returns-else-i-lt4 c =
     (no _ (le-ltb _ 4 c.if-i-lt4.false) (ap Driven (rw c.chip_of.ensures at c.identity_byte.ensures)))
 
 pub returns-in_default : goal.returns-in_default
-returns-in_default c = λ m. sym (silent_shown c.args.s c.args.c m c.args.i c.requires c.in_default.keys5)
+returns-in_default c = λ m. sym (silent_shown c.args.s c.args.c m c.args.i c.requires (opened c.in_default.in_default-own.keys5))

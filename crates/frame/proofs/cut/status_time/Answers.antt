@@ -1,4 +1,5 @@
 -- `frame::cut::status_time` meets its contract: a status write's own time, and no other command has one.
+use borrow.Enum.Refused.{opened}
 use mathlib.Core.Path.{◌≡◌, refl, sym}
 use mathlib.Core.List.{List, [], ◌∷◌}
 use Prim.Native.Nat.{ℕ}
@@ -33,4 +34,4 @@ others (ProgramWord a i) h = refl
 others Sleep h = refl
 
 pub returns-in_default : goal.returns-in_default
-returns-in_default c = sym (others c.args.c c.in_default.keys2)
+returns-in_default c = sym (others c.args.c (opened c.in_default.in_default-own.keys2))

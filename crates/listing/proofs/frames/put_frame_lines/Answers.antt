@@ -1,4 +1,5 @@
 -- `listing::frames::put_frame_lines` meets its contract: the lines of the records before `at` are written, and with those that are left the text will be as it is to be.
+use borrow.Enum.Refused.{opened}
 use mathlib.Core.List.{List, [], ◌∷◌}
 use Prim.Native.Nat.{ℕ, ◌-◌}
 use native.Mathlib.Omega.{arith}
@@ -81,4 +82,4 @@ shape_of-text-in_default c = c.loop-length.invariant.lays.long
 pub returns-in_default : goal.returns-in_default
 returns-in_default c =
     let told : Told (c.args.script.now) c.loop-length.at c.front_at-found.result = front_told (c.args.script.now) c.loop-length.at c.front_at-found.result c.front_at-found.ensures in
-    show_end c.loop-length.invariant (ended c c.front_at-found.result c.in_default.keys3 told)
+    show_end c.loop-length.invariant (ended c c.front_at-found.result (opened c.in_default.in_default-own.keys3) told)

@@ -1,5 +1,6 @@
 -- `run::records::run_records` meets its contract: at the loop's head the records before `at` are run, and running those that are left makes up the whole.
 -- The measure is what is left of the script. Assumes nothing.
+use borrow.Enum.Refused.{opened}
 use mathlib.Core.Path.{◌≡◌, sym, ◌∙◌}
 use mathlib.Core.List.{List, [], ◌∷◌}
 use Prim.Native.Nat.{ℕ, ◌-◌}
@@ -103,6 +104,6 @@ shape_of-driven-in_default c = let told = c.loop-start.invariant in told.1.long.
 pub returns-in_default : goal.returns-in_default
 returns-in_default c =
     let told : Told (c.args.script.now) c.loop-start.at c.front_at-found.result = front_told (c.args.script.now) c.loop-start.at c.front_at-found.result c.front_at-found.ensures in
-    let t = ended c c.front_at-found.result c.in_default.keys3 told in
+    let t = ended c c.front_at-found.result (opened c.in_default.in_default-own.keys3) told in
     let e = walk_end c.loop-start.invariant.1 t in
     record { device_is = e.0; line_is = e.1 }
