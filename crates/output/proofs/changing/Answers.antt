@@ -1,4 +1,5 @@
 -- `output::changing` meets its contract: by turns to the end, else from byte 4 on the same, or from the start.
+use borrow.Enum.Refused.{opened}
 use mathlib.Core.List.{[], ◌∷◌}
 use native.Mathlib.Omega.{arith}
 use types.Run.{miss}
@@ -11,9 +12,9 @@ returns-in-ReadIdentity c = let a = c.args in (omega arith, same_from_end a.c a.
 
 pub returns-in-ReadStatus : goal.returns-in-ReadStatus
 returns-in-ReadStatus c =
-    let told = c.in-ReadStatus.keys2 in
-    let same = same_from_four c.args.c c.requires (λ odd e. miss (1 ∷ 3 ∷ 4 ∷ []) 5 tt (rw e at told)) c.args.count in
+    let told = c.in-ReadStatus.in-ReadStatus-own.keys2 in
+    let same = same_from_four c.args.c c.requires (λ odd e. miss (1 ∷ 3 ∷ 4 ∷ []) 5 tt (opened (rw e at told))) c.args.count in
     (omega arith, rw c.smaller.ensures same)
 
 pub returns-in_default : goal.returns-in_default
-returns-in_default c = (omega arith, same_from_start c.args.c c.args.count c.requires c.in_default.keys3)
+returns-in_default c = (omega arith, same_from_start c.args.c c.args.count c.requires (opened c.in_default.in_default-own.keys3))

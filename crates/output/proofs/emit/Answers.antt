@@ -22,8 +22,8 @@ show_array-requires c =
 
 pub show_each-requires : goal.show_each-requires
 show_each-requires c =
-    let told = (opened c.in_default.in_default-own.keys2) in
-    (λ address silent e. miss others 2 tt (rw e at told), c.requires.3)
+    let told = c.in_default.in_default-own.keys2 in
+    (λ address silent e. miss others 2 tt (opened (rw e at told)), c.requires.3)
 
 pub returns-in-ReadArray : goal.returns-in-ReadArray
 unfolding shown_at

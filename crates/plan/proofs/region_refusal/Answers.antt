@@ -9,23 +9,23 @@ use Rattle.plan.proofs.Laws.Refusals.{region_inside}
 use Rattle.plan.proofs.region_refusal.Goals as goal
 
 pub returns-then-not-is_sound : goal.returns-then-not-is_sound
-returns-then-not-is_sound c = yes _ (rw c.is_sound.ensures at c.if-not-is_sound.true) refl
+returns-then-not-is_sound c = yes _ (ap not (rw c.is_sound.ensures at c.if-not-is_sound.true)) refl
 
 pub returns-then-array-size : goal.returns-then-array-size
 returns-then-array-size c =
-    no _ (rw c.is_sound.ensures at c.if-not-is_sound.false) (yes _ (ap not (ne_eqb _ _ (rw c.chip_of-size.ensures at c.if-array-size.true))) refl)
+    no _ (ap not (rw c.is_sound.ensures at c.if-not-is_sound.false)) (yes _ (ap not (ne_eqb _ _ (rw c.chip_of-size.ensures at c.if-array-size.true))) refl)
 
 pub returns-then-region_exceeds : goal.returns-then-region_exceeds
 returns-then-region_exceeds c =
     let size = c.chip_of-size.ensures in
-    no _ (rw c.is_sound.ensures at c.if-not-is_sound.false) (no _ (ap not (eq-eqb _ _ (rw size at c.if-array-size.false)))
+    no _ (ap not (rw c.is_sound.ensures at c.if-not-is_sound.false)) (no _ (ap not (eq-eqb _ _ (rw size at c.if-array-size.false)))
     (yes _ (rw (c.region_exceeds.ensures, size) at c.if-region_exceeds.true) refl))
 
 pub returns-then-s : goal.returns-then-s
 unfolding is_active
 returns-then-s c =
     let size = c.chip_of-size.ensures in
-    no _ (rw c.is_sound.ensures at c.if-not-is_sound.false) (no _ (ap not (eq-eqb _ _ (rw size at c.if-array-size.false)))
+    no _ (ap not (rw c.is_sound.ensures at c.if-not-is_sound.false)) (no _ (ap not (eq-eqb _ _ (rw size at c.if-array-size.false)))
     (no _ (rw (c.region_exceeds.ensures, size) at c.if-region_exceeds.false) (yes _ c.if-s.true refl)))
 
 pub wants_rise-requires : goal.wants_rise-requires
@@ -37,7 +37,7 @@ pub returns-then-wants_rise : goal.returns-then-wants_rise
 unfolding is_active
 returns-then-wants_rise c =
     let size = c.chip_of-size.ensures in
-    no _ (rw c.is_sound.ensures at c.if-not-is_sound.false) (no _ (ap not (eq-eqb _ _ (rw size at c.if-array-size.false)))
+    no _ (ap not (rw c.is_sound.ensures at c.if-not-is_sound.false)) (no _ (ap not (eq-eqb _ _ (rw size at c.if-array-size.false)))
     (no _ (rw (c.region_exceeds.ensures, size) at c.if-region_exceeds.false) (no _ c.if-s.false
     (yes _ (rw c.wants_rise.ensures at c.if-wants_rise.true) refl))))
 
@@ -45,6 +45,6 @@ pub returns : goal.returns
 unfolding is_active
 returns c =
     let size = c.chip_of-size.ensures in
-    no _ (rw c.is_sound.ensures at c.if-not-is_sound.false) (no _ (ap not (eq-eqb _ _ (rw size at c.if-array-size.false)))
+    no _ (ap not (rw c.is_sound.ensures at c.if-not-is_sound.false)) (no _ (ap not (eq-eqb _ _ (rw size at c.if-array-size.false)))
     (no _ (rw (c.region_exceeds.ensures, size) at c.if-region_exceeds.false) (no _ c.if-s.false
     (no _ (rw c.wants_rise.ensures at c.if-wants_rise.false) refl))))

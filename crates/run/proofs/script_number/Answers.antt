@@ -14,7 +14,7 @@ use borrow.Author.Rules.{rules}
 use Rattle.run.proofs.script_number.Goals as goal
 
 pub returns-then-not-is_sound : goal.returns-then-not-is_sound
-returns-then-not-is_sound c = yes _ (rw c.is_sound.ensures at c.if-not-is_sound.true) refl ∙ sym (number_surveyed _ _ _ _)
+returns-then-not-is_sound c = yes _ (ap not (rw c.is_sound.ensures at c.if-not-is_sound.true)) refl ∙ sym (number_surveyed _ _ _ _)
 
 pub returns-then-array-chip_of : goal.returns-then-array-chip_of
 returns-then-array-chip_of c =
