@@ -12,8 +12,7 @@ returns-in-ReadIdentity c = let a = c.args in (omega arith, same_from_end a.c a.
 
 pub returns-in-ReadStatus : goal.returns-in-ReadStatus
 returns-in-ReadStatus c =
-    let told = c.in-ReadStatus.in-ReadStatus-own.keys2 in
-    let same = same_from_four c.args.c c.requires (λ odd e. miss (1 ∷ 3 ∷ 4 ∷ []) 5 tt (opened (rw e at told))) c.args.count in
+    let same = same_from_four c.args.c c.requires (λ odd e. grind (arith, c.in-ReadStatus.is)) c.args.count in
     (omega arith, rw c.smaller.ensures same)
 
 pub returns-in_default : goal.returns-in_default

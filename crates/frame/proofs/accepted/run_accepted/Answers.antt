@@ -51,5 +51,5 @@ returns c =
     let shown = c.emit.ensures in
     let command = c.command_of-c.ensures in
     let same = c.requires.same.output_long in
-    rw (c.state_after.ensures, c.change.ensures, c.effect_of.ensures, shown.0, shown.1, command, same)
+    rw (c.state_after.ensures, c.change.ensures, c.effect_of.ensures, shown.output_after, shown.driven_after, command, same)
     record { device_is = refl; line_is = refl }

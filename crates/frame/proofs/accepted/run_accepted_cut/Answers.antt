@@ -45,5 +45,5 @@ returns c =
     let shown = c.emit.ensures in
     let command = c.command_of-c.ensures in
     let same = c.requires.whole.same.output_long in
-    rw (c.powered_up.ensures, c.state_cut.ensures, c.cut_change.ensures, c.effect_of.ensures, shown.0, shown.1, command, same)
+    rw (c.powered_up.ensures, c.state_cut.ensures, c.cut_change.ensures, c.effect_of.ensures, shown.output_after, shown.driven_after, command, same)
     record { device_is = refl; line_is = refl }
