@@ -1,12 +1,9 @@
 -- `listing::frames::put_frame_lines` meets its contract: the lines of the records before `at` are written, and with those that are left the text will be as it is to be.
-use borrow.Enum.Refused.{opened}
+use mathlib.Core.Path.{◌≡◌, refl}
 use mathlib.Core.List.{List, [], ◌∷◌}
 use Prim.Native.Nat.{ℕ, ◌-◌}
 use native.Mathlib.Omega.{arith}
-use types.Run.{OneOf, miss}
-use denote.Enum.Declared.{tag_of}
 use lib.ListN.{length}
-use Rattle.script.specs.contracts.reader.Found.{the_type}
 use Rattle.script.specs.declared.reader.Found.{Found}
 use Rattle.script.specs.declared.reader.Found.TheVariants.{Frame, Wait, End, Refused}
 use Rattle.script.specs.Record.{wait}
@@ -17,12 +14,13 @@ use borrow.Author.Rules.{rules}
 use Rattle.listing.proofs.frames.put_frame_lines.Goals as goal
 
 -- there is no other answer than the end
-ended : (c : goal.In_default ) (found : Found) → OneOf (2 ∷ 3 ∷ []) (tag_of the_type found)
-    → Told (Script c) c.loop-length.at found → EndTold (Script c) c.loop-length.at
-ended c (Frame start n next) h t = absurd (miss (2 ∷ 3 ∷ []) 0 tt h)
-ended c (Wait microseconds next) h t = absurd (miss (2 ∷ 3 ∷ []) 1 tt h)
-ended c (End next) h t = t.1
-ended c (Refused number next) h t = absurd (good_not_refused c.loop-length.invariant.decoded t.1)
+ended : (script : List ℕ) (at : ℕ) → ((number next : ℕ) → Told script at (Refused number next) → ⊥) → (found : Found)
+    → ((start n next : ℕ) → found ≡ Frame start n next → ⊥) → ((microseconds next : ℕ) → found ≡ Wait microseconds next → ⊥)
+    → Told script at found → EndTold script at
+ended script at good (Frame start n next) no_frame no_wait t = absurd (no_frame start n next refl)
+ended script at good (Wait microseconds next) no_frame no_wait t = absurd (no_wait microseconds next refl)
+ended script at good (End next) no_frame no_wait t = t.1
+ended script at good (Refused number next) no_frame no_wait t = absurd (good number next t)
 
 pub loop-length-init : goal.loop-length-init
 loop-length-init c = show_start _ _ _ c.requires.0 c.requires.1.0 c.requires.1.1
@@ -82,4 +80,4 @@ shape_of-text-in_default c = c.loop-length.invariant.lays.long
 pub returns-in_default : goal.returns-in_default
 returns-in_default c =
     let told : Told (c.args.script.now) c.loop-length.at c.front_at-found.result = front_told (c.args.script.now) c.loop-length.at c.front_at-found.result c.front_at-found.ensures in
-    show_end c.loop-length.invariant (ended c c.front_at-found.result (opened c.in_default.in_default-own.keys3) told)
+    show_end c.loop-length.invariant (ended c.args.script.now c.loop-length.at (λ number next t. good_not_refused c.loop-length.invariant.decoded t.1) c.front_at-found.result c.in_default.not-Frame c.in_default.not-Wait told)

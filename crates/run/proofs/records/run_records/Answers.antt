@@ -1,14 +1,10 @@
 -- `run::records::run_records` meets its contract: at the loop's head the records before `at` are run, and running those that are left makes up the whole.
 -- The measure is what is left of the script. Assumes nothing.
-use borrow.Enum.Refused.{opened}
-use mathlib.Core.Path.{◌≡◌, sym, ◌∙◌}
+use mathlib.Core.Path.{◌≡◌, refl, sym, ◌∙◌}
 use mathlib.Core.List.{List, [], ◌∷◌}
 use Prim.Native.Nat.{ℕ, ◌-◌}
 use native.Mathlib.Omega.{arith}
-use types.Run.{OneOf, miss}
-use denote.Enum.Declared.{tag_of}
 use lib.ListN.{length}
-use Rattle.script.specs.contracts.reader.Found.{the_type}
 use Rattle.script.specs.declared.reader.Found.{Found}
 use Rattle.script.specs.declared.reader.Found.TheVariants.{Frame, Wait, End, Refused}
 use Rattle.script.specs.Record.{wait}
@@ -21,13 +17,13 @@ use borrow.Author.Rules.{rules}
 use Rattle.run.proofs.records.run_records.Goals as goal
 
 -- there is no other answer than the end
-ended : (c : goal.In_default ) (found : Found) → OneOf (2 ∷ 3 ∷ []) (tag_of the_type found)
-    → Told (Script c) c.loop-start.at found → EndTold (Script c) c.loop-start.at
-ended c (Frame start n next) h t = absurd (miss (2 ∷ 3 ∷ []) 0 tt h)
-ended c (Wait microseconds next) h t = absurd (miss (2 ∷ 3 ∷ []) 1 tt h)
-ended c (End next) h t = t.1
-ended c (Refused number next) h t =
-    absurd (good_not_refused c.loop-start.invariant.1.decoded t.1)
+ended : (script : List ℕ) (at : ℕ) → ((number next : ℕ) → Told script at (Refused number next) → ⊥) → (found : Found)
+    → ((start n next : ℕ) → found ≡ Frame start n next → ⊥) → ((microseconds next : ℕ) → found ≡ Wait microseconds next → ⊥)
+    → Told script at found → EndTold script at
+ended script at good (Frame start n next) no_frame no_wait t = absurd (no_frame start n next refl)
+ended script at good (Wait microseconds next) no_frame no_wait t = absurd (no_wait microseconds next refl)
+ended script at good (End next) no_frame no_wait t = t.1
+ended script at good (Refused number next) no_frame no_wait t = absurd (good number next t)
 
 pub loop-start-init : goal.loop-start-init
 loop-start-init c =
@@ -104,6 +100,6 @@ shape_of-driven-in_default c = let told = c.loop-start.invariant in told.1.long.
 pub returns-in_default : goal.returns-in_default
 returns-in_default c =
     let told : Told (c.args.script.now) c.loop-start.at c.front_at-found.result = front_told (c.args.script.now) c.loop-start.at c.front_at-found.result c.front_at-found.ensures in
-    let t = ended c c.front_at-found.result (opened c.in_default.in_default-own.keys3) told in
+    let t = ended c.args.script.now c.loop-start.at (λ number next t. good_not_refused c.loop-start.invariant.1.decoded t.1) c.front_at-found.result c.in_default.not-Frame c.in_default.not-Wait told in
     let e = walk_end c.loop-start.invariant.1 t in
     record { device_is = e.0; line_is = e.1 }
