@@ -66,8 +66,9 @@ erased() {
     head -c "$1" /dev/zero | tr '\0' '\377'
 }
 
-rt staticlib host | tail -1 || exit 1
-mkdir -p $built
+(cd crates/host_c && rt lib) | tail -1 || exit 1
+mkdir -p target/staticlib $built
+cp crates/host_c/out/libhost_c.a $library || exit 1
 {
     printf '\377\001\340'
     erased 1048573

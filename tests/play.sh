@@ -4,14 +4,15 @@
 # The last line counts them, and the exit is non-zero where one fails.
 set -euo pipefail
 cd "$(dirname "$0")/.."
-[ -x target/bin/play ] || rt check play >/dev/null
+play=crates/play/out/play
+[ -x $play ] || (cd crates/play && rt run <stdin >/dev/null)
 work=$(mktemp -d)
 trap 'rm -rf "$work"' EXIT
 passed=0 failed=0
 
 # name, with the input in $work/in and what must be printed in $work/want
 try() {
-    if target/bin/play <"$work/in" >"$work/got" && cmp -s "$work/want" "$work/got"; then
+    if $play <"$work/in" >"$work/got" && cmp -s "$work/want" "$work/got"; then
         echo "play: $1: as it must be"
         passed=$((passed + 1))
     else

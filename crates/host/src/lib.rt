@@ -1,4 +1,4 @@
-// The library for programs in C, C++ or Rust: include/zeradok.h declares these calls. Each is one call of the model, under a name of its own.
+// The calls for programs in C, C++ or Rust, which include/zeradok.h declares and crate `host_c` exports. Each is one call of the model, under a name of its own.
 #![tactic(auto)]
 
 mod reader;
@@ -18,31 +18,28 @@ ghost use Rattle.flags.specs.Answers.{name_told, NameMarks, BookMoves, BookRetur
 ghost use Rattle.host.specs.Read.{ReadAnswered};
 
 use flags::Returned;
-use reader::Record;
+pub use reader::Record;
 use run::Ran;
 use salvage::Salvaged;
 use script::survey::Surveyed;
 use state::{Answer, Planned, State, Told};
 
 // Make a new chip.
-#[unsafe(no_mangle)]
-pub extern "C" fn zeradok_new(chip: u8) -> Answer
+pub fn zeradok_new(chip: u8) -> Answer
     ensures { result ≡ new_chip chip }
 {
     state::power::new_chip(chip)
 }
 
 // Power the chip up again.
-#[unsafe(no_mangle)]
-pub extern "C" fn zeradok_power_up(chip: State) -> Answer
+pub fn zeradok_power_up(chip: State) -> Answer
     ensures { result ≡ power_up chip }
 {
     state::power::power_up(chip)
 }
 
 // Let so many microseconds pass.
-#[unsafe(no_mangle)]
-pub extern "C" fn zeradok_wait(chip: State, microseconds: u32) -> Answer
+pub fn zeradok_wait(chip: State, microseconds: u32) -> Answer
     ensures { result ≡ pass_time chip microseconds }
 {
     state::time::pass_time(chip, microseconds)
@@ -50,8 +47,7 @@ pub extern "C" fn zeradok_wait(chip: State, microseconds: u32) -> Answer
 
 // Run a frame. The state is lent, and is changed where it stands; the number is returned. Where `output` holds a byte, `driven` holds 01 if the chip
 // drove it, 00 if it was silent.
-#[unsafe(no_mangle)]
-pub extern "C" fn zeradok_frame(
+pub fn zeradok_frame(
     chip: &mut State,
     wp_high: bool,
     array: &mut [u8],
@@ -68,8 +64,7 @@ pub extern "C" fn zeradok_frame(
 }
 
 // Run a frame whose power is cut, then power up: the state is lent as above.
-#[unsafe(no_mangle)]
-pub extern "C" fn zeradok_cut_frame(
+pub fn zeradok_cut_frame(
     chip: &mut State,
     wp_high: bool,
     array: &mut [u8],
@@ -87,8 +82,7 @@ pub extern "C" fn zeradok_cut_frame(
 }
 
 // Plan an update of the bytes from `start` on: the script goes to the front of the buffer.
-#[unsafe(no_mangle)]
-pub extern "C" fn zeradok_plan(
+pub fn zeradok_plan(
     chip: State,
     wp_high: bool,
     array: &[u8],
@@ -102,16 +96,14 @@ pub extern "C" fn zeradok_plan(
 }
 
 // Look a script through without running it.
-#[unsafe(no_mangle)]
-pub extern "C" fn zeradok_survey(script: &[u8]) -> Surveyed
+pub fn zeradok_survey(script: &[u8]) -> Surveyed
     ensures { result ≡ survey_of script.now }
 {
     script::survey::survey_of(script)
 }
 
 // Run a script.
-#[unsafe(no_mangle)]
-pub extern "C" fn zeradok_run(
+pub fn zeradok_run(
     chip: State,
     wp_high: bool,
     array: &mut [u8],
@@ -125,32 +117,28 @@ pub extern "C" fn zeradok_run(
 }
 
 // Read the record at an offset of a script.
-#[unsafe(no_mangle)]
-pub extern "C" fn zeradok_read(script: &[u8], offset: usize) -> Record
+pub fn zeradok_read(script: &[u8], offset: usize) -> Record
     ensures { ReadAnswered script.now offset result }
 {
     reader::record_of(script::reader::record_at(script, offset))
 }
 
 // Whether a scene of a flag book is read: 1 or 0.
-#[unsafe(no_mangle)]
-pub extern "C" fn zeradok_book_is_read(chip: State, array: &[u8], sector: usize, scene: u32) -> Told
+pub fn zeradok_book_is_read(chip: State, array: &[u8], sector: usize, scene: u32) -> Told
     ensures { result ≡ is_read_told chip array.now sector scene }
 {
     book::is_read(chip, array, sector, scene)
 }
 
 // How many scenes of a flag book are read.
-#[unsafe(no_mangle)]
-pub extern "C" fn zeradok_book_count(chip: State, array: &[u8], sector: usize) -> Told
+pub fn zeradok_book_count(chip: State, array: &[u8], sector: usize) -> Told
     ensures { result ≡ count_told chip array.now sector }
 {
     book::count_read(chip, array, sector)
 }
 
 // Plan the marking of a list of scenes in a flag book: the script goes to the front of the buffer.
-#[unsafe(no_mangle)]
-pub extern "C" fn zeradok_book_mark(
+pub fn zeradok_book_mark(
     chip: State,
     wp_high: bool,
     array: &[u8],
@@ -164,29 +152,21 @@ pub extern "C" fn zeradok_book_mark(
 }
 
 // Salvage a sick name sector: no chip and no state, since an image is all that it looks at.
-#[unsafe(no_mangle)]
-pub extern "C" fn zeradok_salvage(sector: &[u8], kept: &mut [u8], dropped: &mut [u8]) -> Salvaged
+pub fn zeradok_salvage(sector: &[u8], kept: &mut [u8], dropped: &mut [u8]) -> Salvaged
     ensures { Salvages sector.now kept.old dropped.old kept.new dropped.new result }
 {
     salvage::salvage(sector, kept, dropped)
 }
 
 // Whether a record of a sector of names has a name: 1 or 0.
-#[unsafe(no_mangle)]
-pub extern "C" fn zeradok_names_is_read(
-    chip: State,
-    array: &[u8],
-    sector: usize,
-    name: &[u8],
-) -> Told
+pub fn zeradok_names_is_read(chip: State, array: &[u8], sector: usize, name: &[u8]) -> Told
     ensures { result ≡ name_told chip array.now sector name.now }
 {
     flags::is_read(chip, array, sector, name)
 }
 
 // Plan the marking of a name: the script goes to the front of the buffer.
-#[unsafe(no_mangle)]
-pub extern "C" fn zeradok_names_mark(
+pub fn zeradok_names_mark(
     chip: State,
     wp_high: bool,
     array: &[u8],
@@ -200,8 +180,7 @@ pub extern "C" fn zeradok_names_mark(
 }
 
 // Plan the move of a flag book into a sector of names.
-#[unsafe(no_mangle)]
-pub extern "C" fn zeradok_names_move(
+pub fn zeradok_names_move(
     chip: State,
     wp_high: bool,
     array: &[u8],
@@ -216,8 +195,7 @@ pub extern "C" fn zeradok_names_move(
 }
 
 // Plan the way back, from a sector of names into a flag book.
-#[unsafe(no_mangle)]
-pub extern "C" fn zeradok_names_back(
+pub fn zeradok_names_back(
     chip: State,
     wp_high: bool,
     array: &[u8],

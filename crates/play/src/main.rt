@@ -1,13 +1,16 @@
 // Runs a script from standard input on a new, erased F25L05PA and prints what the chip showed (01, program `play`).
 #![tactic(auto)]
 
-ghost use Rattle.std.specs.Prelude.{◌≡◌, ◌+◌, length};
+ghost use Rattle.std.specs.Prelude.{◌≡◌, ◌+◌, ◌<◌, IfOk, length, take};
+ghost use Rattle.std.specs.Io.{ReadsAtMost};
+ghost use Rattle.std.specs.Io.KnownBytes.{Consumes, IsAtEnd};
 ghost use Rattle.common.specs.Limits.{longest_script};
 ghost use Rattle.listing.specs.Listing.{longest_listing};
 
 use common::limits::LONGEST_SCRIPT;
-use libc::{STDIN_FILENO, STDOUT_FILENO};
 use listing::LONGEST_LISTING;
+use std::io;
+use std::io::{Read, Write};
 
 // One byte more than the longest script has, so that a longer one is seen.
 fn script_room() -> [u8; LONGEST_SCRIPT + 1]
@@ -22,10 +25,27 @@ fn text_room() -> [u8; LONGEST_LISTING]
     [0; LONGEST_LISTING]
 }
 
-fn main() {
+// Read until the room is full or the input ends; gives how many bytes came.
+fn read_full<R: Read>(input: &mut R, room: &mut [u8]) -> io::Result<usize>
+    ensures bound { ReadsAtMost result room.new }
+    ensures bytes { IfOk result (λ n. Consumes (R.remaining input.old) (R.remaining input.new) (take n room.new)) }
+    ensures end { IfOk result (λ n. n < length room.new → IsAtEnd (R.remaining input.new)) }
+{
+    let mut done = 0;
+    while done < room.len() {
+        let n = input.read(&mut room[done..])?;
+        if n == 0 {
+            break;
+        }
+        done += n;
+    }
+    Ok(done)
+}
+
+fn main(rt: HostRuntime) -> io::Result<()> {
     let mut script = script_room();
-    let n = io::read_full(STDIN_FILENO, &mut script);
+    let n = read_full(&mut rt.stdin(), &mut script)?;
     let mut text = text_room();
     let length = listing::listing(&script[..n], &mut text);
-    io::write_all(STDOUT_FILENO, &text[..length]);
+    rt.stdout().write_all(&text[..length])
 }
