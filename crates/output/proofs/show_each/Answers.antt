@@ -15,16 +15,15 @@ pub changing-to-requires : goal.changing-to-requires
 changing-to-requires c = c.requires.0
 
 pub loop-i-init : goal.loop-i-init
-loop-i-init c =
-    (
-      omega arith,
-      c.changing-to.ensures.0,
-      c.requires.1,
-      refl,
-      refl,
-      λ m. loop_start (λ k x. byte_of (shown_at c.args.s c.args.c m k)) c.args.output.now 0 (λ k x h. absurd (not-suc-le-zero h)),
-      λ m. loop_start (λ k x. driven_of (shown_at c.args.s c.args.c m k)) c.args.driven.now 0 (λ k x h. absurd (not-suc-le-zero h)),
-    )
+loop-i-init c = (
+  omega arith,
+  c.changing-to.ensures.0,
+  c.requires.1,
+  refl,
+  refl,
+  λ m. loop_start (λ k x. byte_of (shown_at c.args.s c.args.c m k)) c.args.output.now 0 (λ k x h. absurd (not-suc-le-zero h)),
+  λ m. loop_start (λ k x. driven_of (shown_at c.args.s c.args.c m k)) c.args.driven.now 0 (λ k x h. absurd (not-suc-le-zero h)),
+)
 
 pub shown_at-shown-requires : goal.shown_at-shown-requires
 shown_at-shown-requires c = c.requires.0

@@ -6,16 +6,16 @@ use Rattle.plan.proofs.put_program.Goals as goal
 pub put_words-requires : goal.put_words-requires
 unfolding program_step
 put_words-requires c = record {
-      inside = c.requires.inside;
-      wanted_in_bounds = rw c.if-words.true at c.requires.wanted_in_bounds;
-    }
+  inside = c.requires.inside;
+  wanted_in_bounds = rw c.if-words.true at c.requires.wanted_in_bounds;
+}
 
 pub put_pages-requires : goal.put_pages-requires
 unfolding program_step
 put_pages-requires c = record {
-      inside = c.requires.inside;
-      wanted_in_bounds = rw c.if-words.false at c.requires.wanted_in_bounds;
-    }
+  inside = c.requires.inside;
+  wanted_in_bounds = rw c.if-words.false at c.requires.wanted_in_bounds;
+}
 
 pub returns-then-words : goal.returns-then-words
 unfolding program_step

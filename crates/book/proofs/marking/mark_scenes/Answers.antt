@@ -25,12 +25,11 @@ pub loop-i-smaller : goal.loop-i-smaller
 loop-i-smaller c = omega arith
 
 pub loop-i-preserved : goal.loop-i-preserved
-loop-i-preserved c =
-    (
-      omega arith,
-      c.loop-i.invariant.1,
-      rw c.mark_scene.ensures (sym (marked_turn _ c.loop-i.used c.loop-i.i c.loop-i-test.true) ∙ c.loop-i.invariant.2),
-    )
+loop-i-preserved c = (
+  omega arith,
+  c.loop-i.invariant.1,
+  rw c.mark_scene.ensures (sym (marked_turn _ c.loop-i.used c.loop-i.i c.loop-i-test.true) ∙ c.loop-i.invariant.2),
+)
 
 pub returns : goal.returns
 returns c = sym (marked_end _ c.loop-i.used c.loop-i.i c.loop-i-test.false) ∙ c.loop-i.invariant.2

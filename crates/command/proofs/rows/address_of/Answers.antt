@@ -11,11 +11,10 @@ use Rattle.command.proofs.rows.address_of.Goals as goal
 pub returns : goal.returns
 unfolding address
 returns c =
-    let chip : Regular c.chip_of-size.result (kind_of c.args.s.chip) = rw c.chip_of-size.ensures (regular c.args.s.chip) in
-    (
-  rw (c.wide-3.ensures.0, c.byte_at-3.ensures, c.wide-2.ensures.0, c.byte_at-2.ensures, c.wide.ensures.0, c.byte_at.ensures, c.chip_of-size.ensures) refl,
-  lt_of_lt_of_le (mod-lt _ chip.size_positive) chip.size_le_mebibyte,
-)
+    let chip : Regular c.chip_of-size.result (kind_of c.args.s.chip) = rw c.chip_of-size.ensures (regular c.args.s.chip) in (
+      rw (c.wide-3.ensures.0, c.byte_at-3.ensures, c.wide-2.ensures.0, c.byte_at-2.ensures, c.wide.ensures.0, c.byte_at.ensures, c.chip_of-size.ensures) refl,
+      lt_of_lt_of_le (mod-lt _ chip.size_positive) chip.size_le_mebibyte,
+    )
 
 pub nonzero_rem-result : goal.nonzero_rem-result
 nonzero_rem-result c =

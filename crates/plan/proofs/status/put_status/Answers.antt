@@ -28,8 +28,8 @@ put_frame-sent-requires c =
     let begun : let a = c.args in Whole a.at (encode (status_records a.s a.bp)) a.buffer.now = left_start _ _ _ (rw (c.if-not-needed.false) at c.requires.bp_in_bounds) in record {
       bytes_len_bound = omega arith;
       bytes_in_bounds = rw c.status_byte.ensures
-      (record_room _ _ (record_turn _ _ begun
-      (rw c.arming.ensures at c.put_frame-armed.ensures)));
+          (record_room _ _ (record_turn _ _ begun
+          (rw c.arming.ensures at c.put_frame-armed.ensures)));
     }
 
 -- a status write that is done at once: nothing is left

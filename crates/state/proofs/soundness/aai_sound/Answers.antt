@@ -57,14 +57,14 @@ pub returns-then-s-gt0 : goal.returns-then-s-gt0
 returns-then-s-gt0 c =
     let state_at : State = c.args.s in
     let on : c.args.s.aai ≡ true = not-false c.args.s.aai c.if-not-s.false in
-    let running : (state_at.left ≡ 0 → state_at.next < first_protected state_at) → Each Holds (aai_clauses state_at) = λ below. of_running state_at (λ _. record { enabled = not-false state_at.wel c.if-not-s-2.false; disarmed = c.if-s.false; left_le_7 = c.if-s-gt7.false; next_even = c.if-s-ne0.false; next_ge_2 = c.if-s-lt2.false; next_le_first = rw c.first_protected-first.ensures at c.if-first-s.false; next_lt_first = below; }) (λ a. absurd (true≢false (sym on ∙ a))) in
+    let running : (state_at.left ≡ 0 → state_at.next < first_protected state_at) → Each Holds (aai_clauses state_at) = λ below. of_running state_at (λ _. record { enabled = not-false state_at.wel c.if-not-s-2.false; disarmed = c.if-s.false; left_le_7 = c.if-s-gt7.false; next_even = c.if-s-ne0.false; next_ge_2 = c.if-s-lt2.false; next_le_first = rw c.first_protected-first.ensures at c.if-first-s.false; next_lt_first = below }) (λ a. absurd (true≢false (sym on ∙ a))) in
     let s = state_at in sym (all_each (aai_clauses s) (running (λ z. absurd (omega (arith, c.if-s-gt0.true)))))
 
 pub returns : goal.returns
 returns c =
     let state_at : State = c.args.s in
     let on : c.args.s.aai ≡ true = not-false c.args.s.aai c.if-not-s.false in
-    let running : (state_at.left ≡ 0 → state_at.next < first_protected state_at) → Each Holds (aai_clauses state_at) = λ below. of_running state_at (λ _. record { enabled = not-false state_at.wel c.if-not-s-2.false; disarmed = c.if-s.false; left_le_7 = c.if-s-gt7.false; next_even = c.if-s-ne0.false; next_ge_2 = c.if-s-lt2.false; next_le_first = rw c.first_protected-first.ensures at c.if-first-s.false; next_lt_first = below; }) (λ a. absurd (true≢false (sym on ∙ a))) in
+    let running : (state_at.left ≡ 0 → state_at.next < first_protected state_at) → Each Holds (aai_clauses state_at) = λ below. of_running state_at (λ _. record { enabled = not-false state_at.wel c.if-not-s-2.false; disarmed = c.if-s.false; left_le_7 = c.if-s-gt7.false; next_even = c.if-s-ne0.false; next_ge_2 = c.if-s-lt2.false; next_le_first = rw c.first_protected-first.ensures at c.if-first-s.false; next_lt_first = below }) (λ a. absurd (true≢false (sym on ∙ a))) in
     let s = state_at in
     rw c.first_protected-first.ensures (decides_at 7 (aai_clauses s) (ltb s.next (first_protected s))
     (λ l. running (λ _. ltb-true s.next (first_protected s) l))
