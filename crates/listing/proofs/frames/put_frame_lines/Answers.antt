@@ -23,7 +23,7 @@ ended script at good (End next) no_frame no_wait t = t.1
 ended script at good (Refused number next) no_frame no_wait t = absurd (good number next t)
 
 pub loop-length-init : goal.loop-length-init
-loop-length-init c = show_start _ _ _ c.requires.0 c.requires.1.0 c.requires.1.1
+loop-length-init c = show_start _ _ _ c.requires.script_value c.requires.long c.requires.longest_script_in_bounds
 
 pub overflow_add-end : goal.overflow_add-end
 overflow_add-end c =
@@ -47,7 +47,7 @@ pub put_shown_line-next_line-requires : goal.put_shown_line-next_line-requires
 put_shown_line-next_line-requires c =
     let told : Told (c.args.script.now) c.loop-length.at c.front_at-found.result = front_told (c.args.script.now) c.loop-length.at c.front_at-found.result c.front_at-found.ensures in
     let framed : FrameTold (c.args.script.now) c.loop-length.at c.in-Frame.start c.in-Frame.length c.in-Frame.next = rw c.in-Frame.is at told in
-    frame_room c.loop-length.invariant (framed)
+    let h = frame_room c.loop-length.invariant framed in record { driven_len = h.0; driven_in_bounds = h.1 }
 
 pub loop-length-smaller-in-Frame : goal.loop-length-smaller-in-Frame
 loop-length-smaller-in-Frame c =

@@ -8,9 +8,9 @@ use Rattle.listing.proofs.refusal.put_refusal.Goals as goal
 
 pub put_decimals_line-requires : goal.put_decimals_line-requires
 put_decimals_line-requires c = record {
-      each = (omega (arith, c.requires.0), (omega (arith, c.requires.1.0), tt));
-      numbers_in_bounds = omega (arith, c.requires.1.1, decimals_line_short 0x52 (c.args.number ∷ c.args.offset ∷ []));
-    }
+  each = (omega (arith, c.requires.number_lt_decimal_end), (omega (arith, c.requires.offset_lt_decimal_end), tt));
+  numbers_in_bounds = omega (arith, c.requires.in_bounds, decimals_line_short 0x52 (c.args.number ∷ c.args.offset ∷ []));
+}
 
 pub returns-then-carries_offset : goal.returns-then-carries_offset
 returns-then-carries_offset c =
@@ -19,9 +19,9 @@ returns-then-carries_offset c =
 
 pub put_decimals_line-requires-2 : goal.put_decimals_line-requires-2
 put_decimals_line-requires-2 c = record {
-      each = (omega (arith, c.requires.0), tt);
-      numbers_in_bounds = omega (arith, c.requires.1.1, decimals_line_short 0x52 (c.args.number ∷ []));
-    }
+  each = (omega (arith, c.requires.number_lt_decimal_end), tt);
+  numbers_in_bounds = omega (arith, c.requires.in_bounds, decimals_line_short 0x52 (c.args.number ∷ []));
+}
 
 pub returns : goal.returns
 returns c =
