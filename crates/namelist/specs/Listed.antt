@@ -1,5 +1,5 @@
 -- The list of names by position (02, A7): "each behind a length byte".
-use Rattle.std.specs.Prelude.{◌≡◌, Bool, true, false, cond, List, [], ◌∷◌, ◌++◌, ℕ, zero, suc, ◌+◌, ◌≤◌, leb, length}
+use Rattle.std.specs.Prelude.{◌≡◌, Bool, true, false, cond, List, [], ◌∷◌, ◌++◌, ℕ, zero, suc, ◌≤◌, leb, length}
 use Rattle.names.specs.Records.{Front, none, item, front_body, AllNames}
 use Rattle.names.specs.Search.{same_bytes}
 

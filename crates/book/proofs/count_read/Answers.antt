@@ -5,7 +5,6 @@ use native.Mathlib.Omega.{arith}
 use Rattle.book.specs.Refusals.{book_refusal}
 use Rattle.book.proofs.Laws.Refusals.{refusal_of_none, opened_exactly, book_inside}
 use Rattle.book.proofs.Laws.Answers.{count_refused, count-told}
-use borrow.Author.Rules.{rules}
 use Rattle.book.proofs.count_read.Goals as goal
 
 pub returns-then-number-ne0 : goal.returns-then-number-ne0

@@ -6,7 +6,6 @@ use Rattle.book.specs.Refusals.{book_refusal, Opened}
 use Rattle.book.proofs.Laws.Listed.{none_over}
 use Rattle.book.proofs.Laws.Refusals.{refusal_of_one, opened_exactly, book_inside}
 use Rattle.book.proofs.Laws.Answers.{is-read-refused, is-read-told}
-use borrow.Author.Rules.{rules}
 use Rattle.book.proofs.is_read.Goals as goal
 
 pub returns-then-number-ne0 : goal.returns-then-number-ne0

@@ -8,7 +8,6 @@ use Rattle.book.proofs.Laws.Marked.{length_marked}
 use Rattle.book.proofs.Laws.Read.{used_length_lem}
 use Rattle.book.proofs.Laws.Refusals.{refusal_of, opened_exactly, book_inside}
 use Rattle.book.proofs.Laws.Answers.{marks_refused, marks_planned}
-use borrow.Author.Rules.{rules}
 use Rattle.book.proofs.mark.Goals as goal
 
 pub returns-then-number-ne0 : goal.returns-then-number-ne0

@@ -1,6 +1,5 @@
 -- `chip::chip_of` meets its contract: each branch is its model's data.
 use mathlib.Core.Path.{ap, ◌∙◌}
-use borrow.Author.Rules.{rules}
 use Rattle.chip.specs.Chip.{Model, chip_of}
 use Rattle.chip.proofs.Laws.Models.{model_of_8, model_of_other}
 use Rattle.chip.proofs.chip_of.Goals as goal

@@ -1,7 +1,6 @@
 -- `chip::kind_of` meets its contract: the chip's own table, in either half.
 use mathlib.Core.Path.{◌≡◌, ap, ◌∙◌}
 use Prim.Native.Nat.{ℕ}
-use borrow.Author.Rules.{rules}
 use Rattle.chip.specs.Instructions.{instructions_008a, instructions_05pa, kind_in}
 use Rattle.chip.specs.Chip.{Model, kind_of}
 use Rattle.chip.proofs.Laws.Models.{model_of_8, model_of_other}

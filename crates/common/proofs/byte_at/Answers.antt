@@ -1,7 +1,6 @@
 -- `common::byte_at` meets its contract: past the end `get_or` gives its default.
 use mathlib.Core.Path.{sym}
 use lib.ListN.{get_or-eq_default}
-use borrow.Author.Rules.{rules}
 use Rattle.common.proofs.byte_at.Goals as goal
 
 pub returns-else-i-bytes : goal.returns-else-i-bytes

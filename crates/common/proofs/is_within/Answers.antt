@@ -1,6 +1,5 @@
 -- `common::is_within` meets its contract: the sum of two numbers of 32 bits is made in 64.
 use mathlib.Core.Path.{refl}
-use borrow.Author.Rules.{rules}
 use Rattle.common.specs.Lists.{within}
 use Rattle.common.proofs.is_within.Goals as goal
 

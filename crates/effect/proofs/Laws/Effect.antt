@@ -15,7 +15,6 @@ use Rattle.effect.specs.declared.Span.{Span}
 use Rattle.effect.specs.declared.Effect.{Effect}
 use Rattle.effect.specs.declared.Effect.TheVariants.{Keep, Fill, Program, Round}
 use Rattle.effect.specs.Effect.{turn, touches, struck, changed, span_of}
-use Rattle.common.specs.Lists.{within}
 use Rattle.effect.specs.Cut.{mixed, mask_place, cut}
 
 -- ---- the span

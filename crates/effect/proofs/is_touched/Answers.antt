@@ -1,7 +1,6 @@
 -- `effect::is_touched` meets its contract: each arm is its effect's test.
 use mathlib.Core.Path.{refl}
 use Rattle.effect.specs.Effect.{touches}
-use borrow.Author.Rules.{rules}
 use Rattle.effect.proofs.is_touched.Goals as goal
 
 pub returns-in-Keep : goal.returns-in-Keep

@@ -3,7 +3,6 @@ use mathlib.Core.Path.{refl}
 use borrow.Author.Tests.{lt-ltb, le-ltb}
 use Rattle.common.proofs.Laws.Choice.{yes, no}
 use Rattle.effect.specs.Effect.{mask_length}
-use borrow.Author.Rules.{rules}
 use Rattle.effect.proofs.mask_length.Goals as goal
 
 pub returns-in-Keep : goal.returns-in-Keep

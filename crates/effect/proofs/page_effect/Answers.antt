@@ -3,7 +3,6 @@ use mathlib.Core.Path.{refl}
 use borrow.Author.Tests.{le-leb, lt-leb}
 use Rattle.common.proofs.Laws.Choice.{yes, no}
 use Rattle.effect.specs.Effect.{page_effect}
-use borrow.Author.Rules.{rules}
 use Rattle.effect.proofs.page_effect.Goals as goal
 
 pub returns-then-count-address : goal.returns-then-count-address

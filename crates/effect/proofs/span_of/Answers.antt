@@ -1,6 +1,5 @@
 -- `effect::span_of` meets its contract: each arm is its effect's span.
 use mathlib.Core.Path.{refl}
-use borrow.Author.Rules.{rules}
 use Rattle.effect.proofs.span_of.Goals as goal
 
 pub returns-in-Keep : goal.returns-in-Keep

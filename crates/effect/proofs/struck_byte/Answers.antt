@@ -1,7 +1,6 @@
 -- `effect::struck_byte` meets its contract: each arm is its effect's byte.
 use mathlib.Core.Path.{refl}
 use Rattle.effect.specs.Effect.{struck}
-use borrow.Author.Rules.{rules}
 use Rattle.effect.proofs.struck_byte.Goals as goal
 
 pub returns-in-Keep : goal.returns-in-Keep

@@ -10,7 +10,6 @@ use Rattle.command.specs.contracts.Command.{the_type}
 use Rattle.command.specs.declared.Command.TheVariants.{Ignored, ReadStatus, ReadArray, ReadJedec, ReadSignature, ReadIdentity, WriteEnable, WriteDisable, Arm, WriteStatus, Erase, ProgramByte, ProgramPage, ProgramWord, Sleep}
 use Rattle.effect.specs.declared.Effect.TheVariants.{Keep}
 use Rattle.frame.specs.Effect.{effect_of}
-use borrow.Author.Rules.{rules}
 use Rattle.frame.proofs.effect_of.Goals as goal
 
 -- the variants of the last arm

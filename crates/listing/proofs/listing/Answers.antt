@@ -20,7 +20,6 @@ use Rattle.text.specs.Text.{hex, line}
 use Rattle.listing.specs.Listing.{longest_listing, high, new05pa, listing, cut_lines}
 use Rattle.listing.proofs.Laws.Listing.{number_small, offset_small, output_small, listing_fits, listing_refused}
 use Rattle.listing.proofs.Laws.Listing.{ran_number, ran_offset, ran_long, ran_listing}
-use borrow.Author.Rules.{rules}
 use Rattle.listing.proofs.listing.Goals as goal
 
 -- the two rooms that are made for what the survey counts

@@ -1,10 +1,7 @@
 -- `output::changing` meets its contract: by turns to the end, else from byte 4 on the same, or from the start.
 use borrow.Enum.Refused.{opened}
-use mathlib.Core.List.{[], ◌∷◌}
 use native.Mathlib.Omega.{arith}
-use types.Run.{miss}
 use Rattle.output.proofs.Laws.Settled.{same_from_start, same_from_four, same_from_end}
-use borrow.Author.Rules.{rules}
 use Rattle.output.proofs.changing.Goals as goal
 
 pub returns-in-ReadIdentity : goal.returns-in-ReadIdentity

@@ -1,6 +1,5 @@
 -- `output::drive_since` meets its contract: two runs are the marks byte by byte.
 use Rattle.output.proofs.Laws.Output.{driven_in_runs}
-use borrow.Author.Rules.{rules}
 use Rattle.output.proofs.drive_since.Goals as goal
 
 pub returns : goal.returns

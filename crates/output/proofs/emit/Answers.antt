@@ -7,7 +7,6 @@ use types.Run.{miss}
 use Rattle.chip.proofs.Laws.Chip.{regular}
 use Rattle.state.specs.State.{data_of}
 use Rattle.output.specs.Output.{memory, shown_at}
-use borrow.Author.Rules.{rules}
 use Rattle.output.proofs.emit.Goals as goal
 
 -- the variants of the last arm

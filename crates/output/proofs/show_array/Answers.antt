@@ -1,7 +1,6 @@
 -- `output::show_array` meets its contract: three runs are the read byte by byte.
 use lib.ListN.{length}
 use Rattle.output.proofs.Laws.Output.{read_in_runs}
-use borrow.Author.Rules.{rules}
 use Rattle.output.proofs.show_array.Goals as goal
 
 pub returns : goal.returns

@@ -1,11 +1,8 @@
 -- `output::show_each` meets its contract: below i both slices show the command's bytes, and from where these no longer change a run lays the rest.
 use mathlib.Core.Path.{◌≡◌, refl, ap, ◌∙◌}
-use Prim.Native.Nat.{ℕ, ◌-◌, ◌≤◌}
 use native.Mathlib.Nat.{not-suc-le-zero}
 use native.Mathlib.Omega.{arith}
 use lib.ListN.{length, length-set}
-use borrow.Author.Rules.{rules}
-use Rattle.common.specs.Lists.{mapi, up_to}
 use Rattle.common.proofs.Laws.Lists.{loop_start, loop_turn}
 use Rattle.output.specs.Output.{byte_of, driven_of, shown_at}
 use Rattle.output.proofs.Laws.Settled.{laid_by_run}

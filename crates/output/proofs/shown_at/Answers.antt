@@ -6,7 +6,6 @@ use Rattle.common.proofs.Laws.Choice.{yes, no}
 use Rattle.output.specs.declared.Shown.TheVariants.{Driven}
 use Rattle.output.specs.Output.{shown_at}
 use Rattle.output.proofs.Laws.Settled.{silent_shown}
-use borrow.Author.Rules.{rules}
 use Rattle.output.proofs.shown_at.Goals as goal
 
 pub returns-then-i-lt1 : goal.returns-then-i-lt1

@@ -1,7 +1,6 @@
 -- `plan::measure_plan` meets its contract: steps 1 and 4 are added to what stands between them.
 use mathlib.Core.Path.{sym, ◌∙◌}
 use Rattle.chip.proofs.Laws.Chip.{regular}
-use borrow.Author.Rules.{rules}
 use Rattle.plan.proofs.Laws.Steps.{program_small}
 use Rattle.plan.proofs.Laws.Plan.{plan_measure}
 use Rattle.plan.proofs.measure_plan.Goals as goal

@@ -1,5 +1,4 @@
 -- `plan::measure_program` meets its contract: the chip's data decides which step it is.
-use borrow.Author.Rules.{rules}
 use Rattle.plan.specs.Plan.{program_step}
 use Rattle.plan.proofs.measure_program.Goals as goal
 

@@ -1,7 +1,6 @@
 -- `plan::plan_update` meets its contract: each refusal is the first that holds, and with none of them the script is measured and written.
 use mathlib.Core.Path.{◌≡◌, sym, ◌∙◌}
 use native.Mathlib.Omega.{arith}
-use borrow.Author.Rules.{rules}
 use Rattle.common.specs.Refusals.{status_locked, buffer_too_short, first_of}
 use Rattle.state.proofs.Laws.Soundness.{sound_of}
 use Rattle.region.specs.Region.{Inside}

@@ -1,7 +1,6 @@
 -- `plan::put_plan` meets its contract: the steps' bytes are laid one behind the other.
 use mathlib.Core.List.{◌++◌}
 use native.Mathlib.Omega.{arith}
-use borrow.Author.Rules.{rules}
 use Rattle.script.specs.Record.{encode}
 use Rattle.state.specs.State.{data_of}
 use Rattle.common.proofs.Laws.Buffer.{Whole, left_start, left_room, left_turn, left_fits, left_last}

@@ -2,7 +2,6 @@
 use mathlib.Core.Path.{refl, ap}
 use mathlib.Core.Bool.{not}
 use borrow.Author.Tests.{eq-eqb, ne_eqb}
-use borrow.Author.Rules.{rules}
 use Rattle.common.proofs.Laws.Choice.{yes, no}
 use Rattle.plan.specs.Refusals.{is_active}
 use Rattle.plan.proofs.Laws.Refusals.{region_inside}

@@ -1,5 +1,4 @@
 -- `promises::plan_update` meets its contract: the planner's own statement, under its shut name.
-use borrow.Author.Rules.{rules}
 use Rattle.plan.specs.Update.{Plans}
 use Rattle.promises.proofs.plan_update.Goals as goal
 

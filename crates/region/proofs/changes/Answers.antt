@@ -1,7 +1,6 @@
 -- `region::changes` meets its contract: before the region and behind it nothing changes.
 use mathlib.Core.Path.{sym}
 use native.Mathlib.Omega.{arith}
-use borrow.Author.Rules.{rules}
 use Rattle.region.proofs.Laws.Region.{changes_before, changes_behind, changes_inside}
 use Rattle.region.proofs.changes.Goals as goal
 

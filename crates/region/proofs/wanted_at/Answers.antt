@@ -1,7 +1,6 @@
 -- `region::wanted_at` meets its contract: before the region and behind it the byte is FF.
 use mathlib.Core.Path.{sym}
 use native.Mathlib.Omega.{arith}
-use borrow.Author.Rules.{rules}
 use Rattle.common.proofs.Laws.Places.{within_below, within_above}
 use Rattle.region.proofs.Laws.Region.{wanted_out, wanted_inside}
 use Rattle.region.proofs.wanted_at.Goals as goal

@@ -1,12 +1,10 @@
 -- `region::wants_rise` meets its contract: the bytes passed want no such 1; the invariant says that the answer is that of the bytes left.
-use mathlib.Core.Path.{◌≡◌, refl, sym, ap, ◌∙◌}
+use mathlib.Core.Path.{refl, sym, ap, ◌∙◌}
 use mathlib.Core.Bool.{not}
-use Prim.Native.Nat.{◌+◌, ◌-◌, ◌≤◌}
 use native.Mathlib.Nat.{add-zero, sub-zero}
 use native.Mathlib.Omega.{arith}
-use lib.ListN.{length}
 use borrow.Author.Tests.{eq-eqb, ne_eqb}
-use Rattle.region.specs.Region.{rises, any_of, wants_rise}
+use Rattle.region.specs.Region.{wants_rise}
 use Rattle.region.proofs.Laws.Region.{any_found, any_turn, any_end, rises_at}
 use Rattle.region.proofs.wants_rise.Goals as goal
 

@@ -5,7 +5,6 @@ use borrow.Author.Tests.{eq-eqb, ne_eqb}
 use Rattle.common.proofs.Laws.Choice.{yes, no}
 use Rattle.state.proofs.Laws.Protection.{first_le}
 use Rattle.registers.specs.Registers.{state_after}
-use borrow.Author.Rules.{rules}
 use Rattle.registers.proofs.state_after.Goals as goal
 
 pub overflow_add-t : goal.overflow_add-t

@@ -5,7 +5,6 @@ use Rattle.frame.specs.Line.{on_line}
 use Rattle.run.specs.Script.{ScriptAccepted}
 use Rattle.run.proofs.Laws.Accepted.{number_accepted, offset_surveyed, counts_surveyed}
 use Rattle.run.proofs.Laws.Script.{script_refused, script_accepted}
-use borrow.Author.Rules.{rules}
 use Rattle.run.proofs.run_script.Goals as goal
 
 pub script_number-number-requires : goal.script_number-number-requires

@@ -10,7 +10,6 @@ use Rattle.state.specs.Soundness.{is_sound}
 use Rattle.script.specs.declared.survey.Surveyed.{Surveyed}
 use Rattle.script.specs.Survey.{survey_of}
 use Rattle.run.proofs.Laws.Accepted.{number_surveyed}
-use borrow.Author.Rules.{rules}
 use Rattle.run.proofs.script_number.Goals as goal
 
 pub returns-then-not-is_sound : goal.returns-then-not-is_sound

@@ -1,6 +1,5 @@
 -- `run::script_offset` meets its contract. Assumes nothing.
 use mathlib.Core.Path.{refl, sym, ◌∙◌}
-use borrow.Author.Rules.{rules}
 use Rattle.common.proofs.Laws.Choice.{yes, no}
 use Rattle.run.proofs.script_offset.Goals as goal
 

@@ -1,7 +1,6 @@
 -- `salvage::salvage` meets its contract: a refusal, found before anything is written, or both buffers as they are to be.
 use mathlib.Core.Path.{◌≡◌, ap, ◌∙◌}
-use mathlib.Core.List.{List}
-use Prim.Native.Nat.{ℕ, ◌≤◌}
+use Prim.Native.Nat.{◌≤◌}
 use native.Mathlib.Omega.{arith}
 use lib.ListN.{length}
 use Rattle.salvage.specs.Pieces.{kept_bytes, dropped_bytes}
@@ -19,7 +18,6 @@ use Rattle.salvage.proofs.Laws.Answers.{
   size_is,
   salvages-all,
 }
-use borrow.Author.Rules.{rules}
 use Rattle.salvage.proofs.salvage.Goals as goal
 
 pub returns-then-sector-kept : goal.returns-then-sector-kept

@@ -1,14 +1,10 @@
 -- `book::marking::mark_scenes` meets its contract: the invariant says that marking what is left of the list gives what marking all of it does.
-use mathlib.Core.Path.{◌≡◌, refl, sym, ◌∙◌}
+use mathlib.Core.Path.{◌≡◌}
 use mathlib.Core.Bool.{false}
 use Prim.Native.Nat.{◌-◌, ◌≤◌}
-use native.Mathlib.Omega.{arith}
 use lib.ListN.{length, drop}
-use borrow.Author.Rules.{rules}
 use Rattle.book.specs.Book.{marked}
 use Rattle.book.specs.Refusals.{has_over}
-use Rattle.book.proofs.Laws.Listed.{none_over}
-use Rattle.book.proofs.Laws.Marked.{marked_turn, marked_end}
 use Rattle.book.proofs.marking.mark_scenes.Given as goal
 
 abbrev pub invariant-loop-i : goal.invariant-loop-i

@@ -3,7 +3,6 @@ use mathlib.Core.Path.{refl, ap}
 use mathlib.Core.Bool.{not}
 use borrow.Author.Tests.{eq-eqb, ne_eqb}
 use Rattle.common.proofs.Laws.Choice.{yes, no}
-use borrow.Author.Rules.{rules}
 use Rattle.book.proofs.refusal.book_refusal.Goals as goal
 
 pub returns-then-not-is_sound : goal.returns-then-not-is_sound

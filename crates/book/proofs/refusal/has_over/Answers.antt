@@ -1,11 +1,7 @@
 -- `book::refusal::has_over` meets its contract: the entries passed are not over; the invariant says that the answer is that of the entries left.
-use mathlib.Core.Path.{◌≡◌, refl, sym, ◌∙◌}
-use Prim.Native.Nat.{◌-◌, ◌≤◌}
+use mathlib.Core.Path.{refl, sym, ◌∙◌}
 use native.Mathlib.Omega.{arith}
-use lib.ListN.{length, drop}
 use borrow.Author.Tests.{lt-ltb, le-ltb}
-use borrow.Author.Rules.{rules}
-use Rattle.book.specs.Refusals.{has_over}
 use Rattle.book.proofs.Laws.Listed.{over_found, over_turn, over_end}
 use Rattle.book.proofs.refusal.has_over.Goals as goal
 

@@ -1,12 +1,8 @@
 -- `book::refusal::has_over` meets its contract: the entries passed are not over; the invariant says that the answer is that of the entries left.
-use mathlib.Core.Path.{◌≡◌, refl, sym, ◌∙◌}
+use mathlib.Core.Path.{◌≡◌}
 use Prim.Native.Nat.{◌-◌, ◌≤◌}
-use native.Mathlib.Omega.{arith}
 use lib.ListN.{length, drop}
-use borrow.Author.Tests.{lt-ltb, le-ltb}
-use borrow.Author.Rules.{rules}
 use Rattle.book.specs.Refusals.{has_over}
-use Rattle.book.proofs.Laws.Listed.{over_found, over_turn, over_end}
 use Rattle.book.proofs.refusal.has_over.Given as goal
 
 abbrev pub invariant-loop-i : goal.invariant-loop-i

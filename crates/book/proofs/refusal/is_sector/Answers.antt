@@ -1,6 +1,5 @@
 -- `book::refusal::is_sector` meets its contract, by the chip's size.
 use mathlib.Core.Path.{refl}
-use borrow.Author.Rules.{rules}
 use Rattle.book.specs.Refusals.{is_sector}
 use Rattle.book.proofs.refusal.is_sector.Goals as goal
 

@@ -1,13 +1,9 @@
 -- `book::telling::scenes_read` meets its contract: the invariant says that the scenes of the bytes passed are counted; a byte has as many as zeros.
-use mathlib.Core.Path.{◌≡◌, sym, ap, ◌∙◌}
+use mathlib.Core.Path.{◌≡◌}
 use Prim.Native.Nat.{◌+◌, ◌-◌, ◌*◌, ◌≤◌}
-use native.Mathlib.Omega.{arith}
-use lib.Count.{ones-le}
-use lib.ListN.{get_or, length}
-use borrow.Author.Rules.{rules}
+use lib.ListN.{length}
 use Rattle.common.specs.Lists.{count_below}
 use Rattle.book.specs.Book.{is_read}
-use Rattle.book.proofs.Laws.Read.{count_start, count_byte, count_is}
 use Rattle.book.proofs.telling.scenes_read.Given as goal
 
 abbrev pub invariant-loop-i : goal.invariant-loop-i

@@ -3,7 +3,6 @@ use native.Mathlib.Omega.{arith}
 use Prim.Native.Nat.{◌<◌}
 use Rattle.common.proofs.Laws.Lists.{get_d_tab}
 use Rattle.chip.specs.Instructions.{instructions_008a, kind_in}
-use borrow.Author.Rules.{rules}
 use Rattle.chip.proofs.f25l008a.kind.Goals as goal
 
 pub returns : goal.returns

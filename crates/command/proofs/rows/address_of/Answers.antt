@@ -5,7 +5,6 @@ use native.Mathlib.Nat.{mod-lt, lt_of_lt_of_le}
 use Rattle.chip.specs.Chip.{kind_of}
 use Rattle.chip.proofs.Laws.Chip.{Regular, regular}
 use Rattle.command.specs.Command.{address}
-use borrow.Author.Rules.{rules}
 use Rattle.command.proofs.rows.address_of.Goals as goal
 
 pub returns : goal.returns

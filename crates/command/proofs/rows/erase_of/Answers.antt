@@ -1,8 +1,6 @@
 -- `command::rows::erase_of` meets its contract: a writable target, or ignored.
 use mathlib.Core.Path.{refl, sym, ◌∙◌}
-use borrow.Author.Tests.{not-true, not-false}
 use Rattle.common.proofs.Laws.Choice.{yes, no}
-use borrow.Author.Rules.{rules}
 use Rattle.command.proofs.rows.erase_of.Goals as goal
 
 pub returns-then-not-is_writable : goal.returns-then-not-is_writable

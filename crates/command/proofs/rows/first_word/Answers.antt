@@ -2,7 +2,6 @@
 use mathlib.Core.Path.{refl}
 use borrow.Author.Tests.{eq-eqb, ne_eqb}
 use Rattle.common.proofs.Laws.Choice.{yes, no}
-use borrow.Author.Rules.{rules}
 use Rattle.command.proofs.rows.first_word.Goals as goal
 
 pub returns-then-input-ne6 : goal.returns-then-input-ne6

@@ -1,7 +1,6 @@
 -- `command::rows::is_writable` meets its contract: it is the definition's test.
 use mathlib.Core.Path.{refl}
 use Rattle.command.specs.Command.{writable}
-use borrow.Author.Rules.{rules}
 use Rattle.command.proofs.rows.is_writable.Goals as goal
 
 pub returns : goal.returns

@@ -1,8 +1,7 @@
 -- `command::rows::program_byte` meets its contract: the right length and a writable target, or ignored.
 use mathlib.Core.Path.{refl, sym, ◌∙◌}
-use borrow.Author.Tests.{eq-eqb, ne_eqb, not-true, not-false}
+use borrow.Author.Tests.{eq-eqb, ne_eqb}
 use Rattle.common.proofs.Laws.Choice.{yes, no}
-use borrow.Author.Rules.{rules}
 use Rattle.command.proofs.rows.program_byte.Goals as goal
 
 pub returns-then-input-ne5 : goal.returns-then-input-ne5

@@ -1,8 +1,7 @@
 -- `command::rows::program_page` meets its contract: the right length and a writable target, or ignored.
 use mathlib.Core.Path.{refl, sym, ◌∙◌}
-use borrow.Author.Tests.{le-leb, lt-leb, not-true, not-false}
+use borrow.Author.Tests.{le-leb, lt-leb}
 use Rattle.common.proofs.Laws.Choice.{yes, no}
-use borrow.Author.Rules.{rules}
 use Rattle.command.proofs.rows.program_page.Goals as goal
 
 pub returns-then-input-lt5 : goal.returns-then-input-lt5

@@ -1,6 +1,5 @@
 -- `command::rows::read_identity` meets its contract: the lowest address bit.
 use mathlib.Core.Path.{refl}
-use borrow.Author.Rules.{rules}
 use Rattle.command.proofs.rows.read_identity.Goals as goal
 
 pub returns : goal.returns

@@ -1,7 +1,6 @@
 -- `command::rows::word_at` meets its contract: a writable word, or ignored.
 use mathlib.Core.Path.{refl, sym, ◌∙◌}
 use Rattle.common.proofs.Laws.Choice.{yes, no}
-use borrow.Author.Rules.{rules}
 use Rattle.command.proofs.rows.word_at.Goals as goal
 
 pub returns-then-is_writable : goal.returns-then-is_writable

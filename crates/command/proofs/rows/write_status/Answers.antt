@@ -2,7 +2,6 @@
 use mathlib.Core.Path.{refl}
 use borrow.Author.Tests.{eq-eqb, ne_eqb, not-true, not-false}
 use Rattle.common.proofs.Laws.Choice.{yes, no}
-use borrow.Author.Rules.{rules}
 use Rattle.command.proofs.rows.write_status.Goals as goal
 
 pub returns-then-input-ne2 : goal.returns-then-input-ne2

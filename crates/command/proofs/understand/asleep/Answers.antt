@@ -1,7 +1,7 @@
 -- `command::understand::asleep` meets its contract: AB, or ignored.
 use mathlib.Core.Path.{refl}
-use borrow.Author.Tests.{eq-eqb, ne_eqb}
-use Rattle.common.proofs.Laws.Choice.{yes, no}
+use borrow.Author.Tests.{eq-eqb}
+use Rattle.common.proofs.Laws.Choice.{yes}
 use Rattle.command.proofs.understand.asleep.Goals as goal
 
 pub returns-in-171 : goal.returns-in-171

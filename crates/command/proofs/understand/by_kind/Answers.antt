@@ -6,7 +6,6 @@ use mathlib.Core.List.{List}
 use Rattle.state.specs.declared.State.{State}
 use Rattle.command.specs.Command.{rows, by_kind}
 use Rattle.command.proofs.Laws.Rows.{look_none}
-use borrow.Author.Rules.{rules}
 use Rattle.command.proofs.understand.by_kind.Goals as goal
 
 -- an arm's number, put into the definition

@@ -2,7 +2,6 @@
 use borrow.Author.Tests.{lt-ltb, le-ltb}
 use Rattle.common.proofs.Laws.Choice.{yes, no}
 use Rattle.command.specs.Command.{command_of}
-use borrow.Author.Rules.{rules}
 use Rattle.command.proofs.understand.command_of.Goals as goal
 
 pub returns-then-s-gt0 : goal.returns-then-s-gt0

@@ -3,7 +3,6 @@ use mathlib.Core.Path.{refl}
 use borrow.Author.Tests.{eq-eqb, ne_eqb}
 use Rattle.common.proofs.Laws.Choice.{yes, no}
 use Rattle.command.specs.Command.{in_aai}
-use borrow.Author.Rules.{rules}
 use Rattle.command.proofs.understand.in_aai.Goals as goal
 
 pub returns-in-173 : goal.returns-in-173

@@ -1,8 +1,6 @@
 -- `common::buffer::put` meets its contract: the invariant says that with the bytes left the buffer will be as it is to be.
-use Prim.Native.Nat.{◌-◌, ◌≤◌}
 use native.Mathlib.Omega.{arith}
-use lib.ListN.{length, drop}
-use Rattle.common.proofs.Laws.Buffer.{Left, left_start, byte_room, byte_turn, byte_last}
+use Rattle.common.proofs.Laws.Buffer.{left_start, byte_room, byte_turn, byte_last}
 use Rattle.common.proofs.buffer.put.Goals as goal
 
 pub loop-i-init : goal.loop-i-init

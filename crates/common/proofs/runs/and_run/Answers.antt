@@ -1,12 +1,8 @@
 -- `common::runs::and_run` meets its contract: below k the run is ANDed.
-use mathlib.Core.Path.{◌≡◌, refl}
-use Prim.Native.Nat.{◌+◌, ◌-◌, ◌≤◌}
+use mathlib.Core.Path.{refl}
 use native.Mathlib.Omega.{arith}
-use lib.ListN.{length, get_or, length-set}
-use lib.Bits.{bit_and}
-use Rattle.common.specs.Lists.{mapi, up_to, on_run}
+use lib.ListN.{length-set}
 use Rattle.common.proofs.Laws.Runs.{run_start, run_turn, run_end}
-use borrow.Author.Rules.{rules}
 use Rattle.common.proofs.runs.and_run.Goals as goal
 
 pub loop-k-init : goal.loop-k-init

@@ -1,11 +1,8 @@
 -- `common::runs::copy_bytes` meets its contract: below k the run is copied.
-use mathlib.Core.Path.{◌≡◌, refl}
-use Prim.Native.Nat.{◌+◌, ◌-◌, ◌≤◌}
+use mathlib.Core.Path.{refl}
 use native.Mathlib.Omega.{arith}
-use lib.ListN.{length, length-set}
-use Rattle.common.specs.Lists.{mapi, up_to, on_run}
-use Rattle.common.proofs.Laws.Runs.{run_start, run_turn, run_end, copied}
-use borrow.Author.Rules.{rules}
+use lib.ListN.{length-set}
+use Rattle.common.proofs.Laws.Runs.{run_start, run_turn, run_end}
 use Rattle.common.proofs.runs.copy_bytes.Goals as goal
 
 pub loop-k-init : goal.loop-k-init

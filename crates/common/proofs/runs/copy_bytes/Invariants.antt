@@ -1,11 +1,9 @@
 -- `common::runs::copy_bytes` meets its contract: below k the run is copied.
-use mathlib.Core.Path.{◌≡◌, refl}
+use mathlib.Core.Path.{◌≡◌}
 use Prim.Native.Nat.{◌+◌, ◌-◌, ◌≤◌}
-use native.Mathlib.Omega.{arith}
-use lib.ListN.{length, length-set}
+use lib.ListN.{length}
 use Rattle.common.specs.Lists.{mapi, up_to, on_run}
-use Rattle.common.proofs.Laws.Runs.{run_start, run_turn, run_end, copied}
-use borrow.Author.Rules.{rules}
+use Rattle.common.proofs.Laws.Runs.{copied}
 use Rattle.common.proofs.runs.copy_bytes.Given as goal
 
 abbrev pub invariant-loop-k : goal.invariant-loop-k

@@ -1,12 +1,11 @@
 -- `common::runs::copy_run` meets its contract: below k the run is copied; an empty run changes nothing, and a run of one place is one turn.
 use mathlib.Core.Path.{◌≡◌, refl, ap, ◌∙◌}
-use Prim.Native.Nat.{ℕ, ◌+◌, ◌-◌, ◌≤◌}
+use Prim.Native.Nat.{ℕ, ◌+◌, ◌-◌}
 use native.Mathlib.Omega.{arith}
 use lib.ListN.{length, get_or, length-set}
-use Rattle.common.specs.Lists.{mapi, up_to, on_run}
+use Rattle.common.specs.Lists.{mapi, on_run}
 use Rattle.common.proofs.Laws.Lists.{length_mapi}
 use Rattle.common.proofs.Laws.Runs.{run_start, run_turn, run_strip, run_end, copied, copied_on}
-use borrow.Author.Rules.{rules}
 use Rattle.common.proofs.runs.copy_run.Goals as goal
 
 pub returns-then-to-from : goal.returns-then-to-from

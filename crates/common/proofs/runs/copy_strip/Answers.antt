@@ -5,7 +5,6 @@ use Prim.Native.Nat.{ℕ}
 use native.Mathlib.Omega.{arith}
 use Rattle.common.specs.Lists.{mapi, on_run}
 use Rattle.common.proofs.Laws.Runs.{copied, through_strip}
-use borrow.Author.Rules.{rules}
 use Rattle.common.proofs.runs.copy_strip.Goals as goal
 
 pub returns : goal.returns

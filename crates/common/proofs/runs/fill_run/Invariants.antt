@@ -1,11 +1,8 @@
 -- `common::runs::fill_run` meets its contract: below k the run is filled.
-use mathlib.Core.Path.{◌≡◌, refl}
+use mathlib.Core.Path.{◌≡◌}
 use Prim.Native.Nat.{◌-◌, ◌≤◌}
-use native.Mathlib.Omega.{arith}
-use lib.ListN.{length, length-set}
+use lib.ListN.{length}
 use Rattle.common.specs.Lists.{mapi, up_to, on_run}
-use Rattle.common.proofs.Laws.Runs.{run_start, run_turn, run_end}
-use borrow.Author.Rules.{rules}
 use Rattle.common.proofs.runs.fill_run.Given as goal
 
 abbrev pub invariant-loop-k : goal.invariant-loop-k

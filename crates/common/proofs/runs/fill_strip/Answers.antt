@@ -5,7 +5,6 @@ use lib.ListN.{length}
 use Rattle.common.specs.Lists.{mapi, on_run}
 use Rattle.common.proofs.Laws.Lists.{length_mapi}
 use Rattle.common.proofs.Laws.Runs.{copied, strip_filled}
-use borrow.Author.Rules.{rules}
 use Rattle.common.proofs.runs.fill_strip.Goals as goal
 
 pub returns : goal.returns

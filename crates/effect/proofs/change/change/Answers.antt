@@ -2,7 +2,6 @@
 use mathlib.Core.Path.{sym, ◌∙◌}
 use native.Mathlib.Omega.{arith}
 use Rattle.effect.proofs.Laws.Straight.{keep_array, fill_in_a_run, program_in_a_run}
-use borrow.Author.Rules.{rules}
 use Rattle.effect.proofs.change.change.Goals as goal
 
 pub fill_run-requires : goal.fill_run-requires

@@ -1,13 +1,10 @@
 -- `effect::change::change_each` meets its contract: below k the array is changed, from k on it is as it was.
-use mathlib.Core.Path.{◌≡◌, refl, ap}
-use Prim.Native.Nat.{ℕ, ◌-◌, ◌<◌, ◌≤◌}
+use mathlib.Core.Path.{refl, ap}
 use native.Mathlib.Omega.{arith}
-use lib.ListN.{length, length-set}
-use borrow.Author.Rules.{rules}
-use Rattle.common.specs.Lists.{mapi, up_to}
+use lib.ListN.{length-set}
 use Rattle.common.proofs.Laws.Lists.{loop_start, loop_turn, loop_end}
 use Rattle.effect.specs.declared.Span.{Span}
-use Rattle.effect.specs.Effect.{span_of, changed}
+use Rattle.effect.specs.Effect.{changed}
 use Rattle.effect.proofs.Laws.Effect.{changed_below, changed_above}
 use Rattle.effect.proofs.change.change_each.Goals as goal
 

@@ -2,7 +2,6 @@
 use mathlib.Core.Path.{refl}
 use Rattle.common.proofs.Laws.Choice.{yes, no}
 use Rattle.effect.specs.Effect.{changed}
-use borrow.Author.Rules.{rules}
 use Rattle.effect.proofs.change.changed_byte.Goals as goal
 
 pub returns-then-is_touched : goal.returns-then-is_touched

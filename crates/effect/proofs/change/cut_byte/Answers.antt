@@ -1,7 +1,6 @@
 -- `effect::change::cut_byte` meets its contract: touched and mixed, or as it was.
 use mathlib.Core.Path.{refl}
 use Rattle.common.proofs.Laws.Choice.{yes, no}
-use borrow.Author.Rules.{rules}
 use Rattle.effect.proofs.change.cut_byte.Goals as goal
 
 pub returns-then-is_touched : goal.returns-then-is_touched

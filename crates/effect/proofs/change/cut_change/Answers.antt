@@ -2,18 +2,16 @@
 use mathlib.Core.Path.{◌≡◌, refl, sym, ap, ◌∙◌}
 use mathlib.Core.Bool.{Bool, cond}
 use mathlib.Core.List.{List}
-use Prim.Native.Nat.{ℕ, ◌-◌, ◌<◌, ◌≤◌}
+use Prim.Native.Nat.{ℕ}
 use native.Mathlib.Omega.{arith}
-use lib.ListN.{length, get_or, length-set}
+use lib.ListN.{get_or, length-set}
 use mir.Val.{bool_byte}
-use borrow.Author.Rules.{rules}
-use Rattle.common.specs.Lists.{mapi, up_to}
 use Rattle.common.proofs.Laws.Flags.{flag_is, bit_le}
 use Rattle.common.proofs.Laws.Lists.{loop_start, loop_turn, loop_end}
 use Rattle.common.proofs.Laws.Places.{count_turn}
 use Rattle.effect.specs.declared.Effect.{Effect}
 use Rattle.effect.specs.declared.Span.{Span}
-use Rattle.effect.specs.Effect.{span_of, touches, struck}
+use Rattle.effect.specs.Effect.{touches, struck}
 use Rattle.effect.specs.Cut.{mixed, mask_place, cut}
 use Rattle.effect.proofs.Laws.Effect.{mask_place_start, cut_below, cut_above}
 use Rattle.effect.proofs.change.cut_change.Goals as goal

@@ -1,7 +1,6 @@
 -- `effect::change::mixed_byte` meets its contract: it is the definition's expression.
 use mathlib.Core.Path.{refl}
 use Rattle.effect.specs.Cut.{mixed}
-use borrow.Author.Rules.{rules}
 use Rattle.effect.proofs.change.mixed_byte.Goals as goal
 
 pub returns : goal.returns

@@ -12,7 +12,6 @@ use Rattle.effect.proofs.Laws.Effect.{Inside}
 use Rattle.frame.specs.Ran.{ran_device, shown_line}
 use Rattle.frame.proofs.Laws.Supplied.{effect_supplied}
 use Rattle.frame.proofs.Laws.Inside.{effect_inside}
-use borrow.Author.Rules.{rules}
 use Rattle.frame.proofs.accepted.run_accepted.Goals as goal
 
 pub command_of-c-requires : goal.command_of-c-requires

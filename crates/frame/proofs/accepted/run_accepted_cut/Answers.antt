@@ -10,7 +10,6 @@ use Rattle.effect.specs.Effect.{span_of}
 use Rattle.effect.proofs.Laws.Effect.{Inside}
 use Rattle.frame.specs.Ran.{torn_device, shown_line}
 use Rattle.frame.proofs.Laws.Inside.{effect_inside}
-use borrow.Author.Rules.{rules}
 use Rattle.frame.proofs.accepted.run_accepted_cut.Goals as goal
 
 pub command_of-c-requires : goal.command_of-c-requires

@@ -1,6 +1,5 @@
 -- `frame::call::cut_number` meets its contract: the frame's own number, then the mask's.
 use mathlib.Core.Path.{◌≡◌, sym, ◌∙◌}
-use borrow.Author.Tests.{not-true, not-false}
 use Rattle.command.specs.Command.{command_of}
 use Rattle.command.proofs.Laws.Fits.{next_low}
 use Rattle.frame.specs.Device.{device}
@@ -9,7 +8,6 @@ use Rattle.frame.specs.Cut.{takes_mask}
 use Rattle.frame.specs.Call.{Accepted}
 use Rattle.frame.proofs.Laws.Cut.{masked_of}
 use Rattle.frame.proofs.Laws.Accepted.{number_accepted, cut_accepted_number, cut_number_refused, cut_number_unmasked}
-use borrow.Author.Rules.{rules}
 use Rattle.frame.proofs.call.cut_number.Goals as goal
 
 pub returns-then-number-ne0 : goal.returns-then-number-ne0

@@ -4,7 +4,6 @@ use mathlib.Core.Bool.{not}
 use borrow.Author.Tests.{eq-eqb, ne_eqb}
 use Rattle.common.proofs.Laws.Choice.{yes, no}
 use Rattle.frame.specs.Call.{frame_number}
-use borrow.Author.Rules.{rules}
 use Rattle.frame.proofs.call.frame_number.Goals as goal
 
 pub returns-then-not-is_sound : goal.returns-then-not-is_sound

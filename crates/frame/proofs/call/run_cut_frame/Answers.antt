@@ -5,7 +5,6 @@ use Rattle.frame.specs.Line.{on_line}
 use Rattle.frame.specs.Call.{CutAccepted}
 use Rattle.frame.proofs.Laws.Accepted.{cut_number_accepted}
 use Rattle.frame.proofs.Laws.Call.{cut_refused, cut_accepted}
-use borrow.Author.Rules.{rules}
 use Rattle.frame.proofs.call.run_cut_frame.Goals as goal
 
 pub returns-then-number-ne0 : goal.returns-then-number-ne0

@@ -5,7 +5,6 @@ use Rattle.frame.specs.Line.{on_line}
 use Rattle.frame.specs.Call.{Accepted}
 use Rattle.frame.proofs.Laws.Accepted.{number_accepted}
 use Rattle.frame.proofs.Laws.Call.{frame_refused, frame_accepted}
-use borrow.Author.Rules.{rules}
 use Rattle.frame.proofs.call.run_frame.Goals as goal
 
 pub returns-then-number-ne0 : goal.returns-then-number-ne0

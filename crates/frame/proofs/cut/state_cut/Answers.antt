@@ -5,7 +5,6 @@ use lib.Dec.{eqb}
 use lib.ListN.{get_or}
 use Rattle.common.proofs.Laws.Choice.{yes, no}
 use Rattle.frame.specs.Cut.{is_status_cycle}
-use borrow.Author.Rules.{rules}
 use Rattle.frame.proofs.cut.state_cut.Goals as goal
 
 pub returns-then-status_time-byte_at : goal.returns-then-status_time-byte_at

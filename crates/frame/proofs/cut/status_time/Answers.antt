@@ -9,7 +9,6 @@ use Rattle.command.specs.declared.Command.{Command}
 use Rattle.command.specs.contracts.Command.{the_type}
 use Rattle.command.specs.declared.Command.TheVariants.{Ignored, ReadStatus, ReadArray, ReadJedec, ReadSignature, ReadIdentity, WriteEnable, WriteDisable, Arm, WriteStatus, Erase, ProgramByte, ProgramPage, ProgramWord, Sleep}
 use Rattle.frame.specs.Cut.{status_time}
-use borrow.Author.Rules.{rules}
 use Rattle.frame.proofs.cut.status_time.Goals as goal
 
 -- the variants of the last arm

@@ -3,7 +3,6 @@ use mathlib.Core.Path.{refl, sym}
 use borrow.Author.Tests.{lt-ltb, le-ltb}
 use Rattle.common.proofs.Laws.Booleans.{and_true}
 use Rattle.frame.specs.Cut.{status_time}
-use borrow.Author.Rules.{rules}
 use Rattle.frame.proofs.cut.takes_mask.Goals as goal
 
 pub returns-then-status_time-gt0 : goal.returns-then-status_time-gt0

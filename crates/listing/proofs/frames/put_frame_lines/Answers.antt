@@ -1,15 +1,13 @@
 -- `listing::frames::put_frame_lines` meets its contract: the lines of the records before `at` are written, and with those that are left the text will be as it is to be.
 use mathlib.Core.Path.{◌≡◌, refl}
-use mathlib.Core.List.{List, [], ◌∷◌}
-use Prim.Native.Nat.{ℕ, ◌-◌}
+use mathlib.Core.List.{List}
+use Prim.Native.Nat.{ℕ}
 use native.Mathlib.Omega.{arith}
-use lib.ListN.{length}
 use Rattle.script.specs.declared.reader.Found.{Found}
 use Rattle.script.specs.declared.reader.Found.TheVariants.{Frame, Wait, End, Refused}
 use Rattle.script.specs.Record.{wait}
-use Rattle.frame.specs.Line.{on_line}
 use Rattle.script.proofs.Laws.Answers.{good_not_refused, Stands, FrameTold, EndTold, Told, front_told}
-use Rattle.listing.proofs.Laws.Frames.{Shown, show_start, frame_inside, frame_driven_inside, frame_room, show_frame, show_wait, show_end}
+use Rattle.listing.proofs.Laws.Frames.{show_start, frame_inside, frame_driven_inside, frame_room, show_frame, show_wait, show_end}
 use borrow.Author.Rules.{rules}
 use Rattle.listing.proofs.frames.put_frame_lines.Goals as goal
 

@@ -3,7 +3,6 @@ use mathlib.Core.Path.{sym, ◌∙◌}
 use mathlib.Core.List.{[], ◌∷◌}
 use native.Mathlib.Omega.{arith}
 use Rattle.text.proofs.Laws.Decimal.{decimals_line_short}
-use borrow.Author.Rules.{rules}
 use Rattle.listing.proofs.refusal.put_refusal.Goals as goal
 
 pub put_decimals_line-requires : goal.put_decimals_line-requires

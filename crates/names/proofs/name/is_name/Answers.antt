@@ -1,6 +1,5 @@
 -- `names::name::is_name` meets its contract: the length is asked first.
 use mathlib.Core.Path.{sym, ◌∙◌}
-use borrow.Author.Rules.{rules}
 use Rattle.names.proofs.Laws.Reader.{name_sized, name_not_sized}
 use Rattle.names.proofs.name.is_name.Goals as goal
 

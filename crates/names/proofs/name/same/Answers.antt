@@ -1,9 +1,6 @@
 -- `names::name::same` meets its contract: names of one length agree in the bytes passed, and one byte that differs tells them apart.
-use Prim.Native.Nat.{◌-◌}
 use native.Mathlib.Omega.{arith}
-use lib.ListN.{length}
-use borrow.Author.Rules.{rules}
-use Rattle.names.proofs.Laws.Search.{Agree, agree_start, agree_turn, agree_end, differ_long, differ_at}
+use Rattle.names.proofs.Laws.Search.{agree_start, agree_turn, agree_end, differ_long, differ_at}
 use Rattle.names.proofs.name.same.Goals as goal
 
 pub returns-then-bytes-others : goal.returns-then-bytes-others

@@ -4,7 +4,6 @@ use native.Mathlib.Omega.{arith}
 use lib.ListN.{length}
 use Rattle.common.proofs.Laws.Buffer.{left_start, left_turn, left_last}
 use Rattle.names.specs.Records.{record_bytes}
-use borrow.Author.Rules.{rules}
 use Rattle.names.proofs.record.put_record.Goals as goal
 
 pub returns : goal.returns

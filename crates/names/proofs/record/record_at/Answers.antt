@@ -2,9 +2,7 @@
 use mathlib.Core.Path.{◌≡◌, sym, ◌∙◌}
 use Prim.Native.Nat.{◌+◌, ◌-◌}
 use native.Mathlib.Omega.{arith}
-use borrow.Author.Tests.{not-true, not-false}
 use Rattle.names.proofs.Laws.Reader.{reads_end, reads_unmarked, reads_short, reads_half_marked, reads_cut, reads_bad, reads_name}
-use borrow.Author.Rules.{rules}
 use Rattle.names.proofs.record.record_at.Goals as goal
 
 pub returns-then-at-bytes : goal.returns-then-at-bytes

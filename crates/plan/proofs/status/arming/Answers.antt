@@ -1,6 +1,5 @@
 -- `plan::status::arming` meets its contract: the chip's data decides.
 use mathlib.Core.Path.{refl}
-use borrow.Author.Rules.{rules}
 use Rattle.common.proofs.Laws.Choice.{yes, no}
 use Rattle.plan.proofs.status.arming.Goals as goal
 

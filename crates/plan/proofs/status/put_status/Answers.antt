@@ -1,7 +1,5 @@
 -- `plan::status::put_status` meets its contract: nothing, or its records one behind the other.
 use native.Mathlib.Omega.{arith}
-use borrow.Author.Tests.{not-true, not-false}
-use borrow.Author.Rules.{rules}
 use Rattle.script.specs.Record.{encode}
 use Rattle.common.proofs.Laws.Buffer.{Whole, left_start, put_none}
 use Rattle.script.proofs.Laws.Records.{encode_none}

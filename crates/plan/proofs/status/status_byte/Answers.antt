@@ -1,7 +1,6 @@
 -- `plan::status::status_byte` meets its contract: a flag times its place is its bit.
 use mathlib.Core.Path.{refl}
 use native.Mathlib.Omega.{arith}
-use borrow.Author.Rules.{rules}
 use Rattle.common.proofs.Laws.Flags.{flag_times, bit_le}
 use Rattle.plan.specs.Plan.{status_byte}
 use Rattle.plan.proofs.status.status_byte.Goals as goal

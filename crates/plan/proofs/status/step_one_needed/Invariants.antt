@@ -1,13 +1,9 @@
 -- `plan::status::step_one_needed` meets its contract: no changing byte that was passed is protected; the invariant says that the answer is that of the bytes left.
-use mathlib.Core.Path.{◌≡◌, refl, sym, ◌∙◌}
+use mathlib.Core.Path.{◌≡◌}
 use Prim.Native.Nat.{◌+◌, ◌-◌, ◌≤◌}
-use native.Mathlib.Nat.{add-zero, sub-zero}
-use native.Mathlib.Omega.{arith}
 use lib.ListN.{length}
 use Rattle.region.specs.Region.{any_of}
-use Rattle.region.proofs.Laws.Region.{any_found, any_turn, any_end}
-use Rattle.plan.specs.Plan.{is_protected_change, step_one_needed}
-use Rattle.plan.proofs.Laws.Steps.{protected_at}
+use Rattle.plan.specs.Plan.{is_protected_change}
 use Rattle.plan.proofs.status.step_one_needed.Given as goal
 
 abbrev pub invariant-loop-i : goal.invariant-loop-i

@@ -1,7 +1,6 @@
 -- `plan::status::with_status_steps` meets its contract: steps 1 and 4 have 22 bytes, four frames, and two waits.
 use mathlib.Core.Path.{refl}
 use native.Mathlib.Omega.{arith}
-use borrow.Author.Rules.{rules}
 use Rattle.common.proofs.Laws.Choice.{yes, no}
 use Rattle.plan.specs.Plan.{with_status_steps}
 use Rattle.plan.proofs.Laws.Steps.{wait_bytes_le}

@@ -1,11 +1,10 @@
 -- `salvage::pieces::list_length` meets its contract: what is listed, and the list of what is left, are together as long as the whole list.
-use mathlib.Core.Path.{◌≡◌, sym, ap, ◌∙◌}
-use Prim.Native.Nat.{◌+◌, ◌-◌, ◌≤◌}
+use mathlib.Core.Path.{sym, ap, ◌∙◌}
 use native.Mathlib.Omega.{arith}
 use lib.ListN.{length}
 use Rattle.names.proofs.Laws.Front.{none_exactly}
 use Rattle.salvage.proofs.Laws.Apart.{list_most}
-use Rattle.salvage.proofs.Laws.Walk.{KeptAt, kept_at, list_at, list_at_end, list_at_stretch, list_at_kept}
+use Rattle.salvage.proofs.Laws.Walk.{KeptAt, kept_at, list_at_end, list_at_stretch, list_at_kept}
 use Rattle.salvage.proofs.pieces.list_length.Goals as goal
 
 pub loop-at-init : goal.loop-at-init

@@ -2,10 +2,8 @@
 use mathlib.Core.Path.{◌≡◌, sym, ◌∙◌}
 use Prim.Native.Nat.{◌+◌, ◌-◌}
 use native.Mathlib.Omega.{arith}
-use lib.ListN.{length}
-use borrow.Author.Rules.{rules}
 use Rattle.names.proofs.Laws.Front.{none_exactly}
-use Rattle.salvage.proofs.Laws.Walk.{KeptAt, kept_at, Laying, laying_start, entry_room, laying_stretch, record_room, laying_kept, laying_end}
+use Rattle.salvage.proofs.Laws.Walk.{KeptAt, kept_at, laying_start, entry_room, laying_stretch, record_room, laying_kept, laying_end}
 use Rattle.salvage.proofs.pieces.put_pieces.Goals as goal
 
 pub loop-at-init : goal.loop-at-init

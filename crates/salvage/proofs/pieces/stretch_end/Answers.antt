@@ -1,10 +1,7 @@
 -- `salvage::pieces::stretch_end` meets its contract: from the start up to `end` no record begins.
 use mathlib.Core.Path.{sym, ◌∙◌}
-use Prim.Native.Nat.{◌-◌}
 use native.Mathlib.Omega.{arith}
-use lib.ListN.{length}
-use borrow.Author.Rules.{rules}
-use Rattle.salvage.proofs.Laws.Walk.{Searched, search_start, search_turn, search_found, search_end}
+use Rattle.salvage.proofs.Laws.Walk.{search_start, search_turn, search_found, search_end}
 use Rattle.salvage.proofs.pieces.stretch_end.Goals as goal
 
 pub loop-end-init : goal.loop-end-init

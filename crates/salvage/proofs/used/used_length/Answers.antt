@@ -1,7 +1,6 @@
 -- `salvage::used::used_length` meets its contract: FF from `used` on.
 use native.Mathlib.Omega.{arith}
-use borrow.Author.Rules.{rules}
-use Rattle.salvage.proofs.Laws.Used.{ErasedFrom, erased_start, erased_turn, erased_found, erased_all}
+use Rattle.salvage.proofs.Laws.Used.{erased_start, erased_turn, erased_found, erased_all}
 use Rattle.salvage.proofs.used.used_length.Goals as goal
 
 pub loop-used-init : goal.loop-used-init

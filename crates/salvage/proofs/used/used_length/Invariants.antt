@@ -1,7 +1,5 @@
 -- `salvage::used::used_length` meets its contract: FF from `used` on.
-use native.Mathlib.Omega.{arith}
-use borrow.Author.Rules.{rules}
-use Rattle.salvage.proofs.Laws.Used.{ErasedFrom, erased_start, erased_turn, erased_found, erased_all}
+use Rattle.salvage.proofs.Laws.Used.{ErasedFrom}
 use Rattle.salvage.proofs.used.used_length.Given as goal
 
 abbrev pub invariant-loop-used : goal.invariant-loop-used

@@ -1,7 +1,6 @@
 -- `salvage::used::used_part` meets its contract.
 use mathlib.Core.Path.{refl, sym}
 use lib.Seq.{length-take-le}
-use borrow.Author.Rules.{rules}
 use Rattle.salvage.specs.Pieces.{used_part}
 use Rattle.salvage.proofs.Laws.Used.{used_is}
 use Rattle.salvage.proofs.used.used_part.Goals as goal

@@ -1,7 +1,6 @@
 -- `script::reader::frame_at` meets its contract: the tests that led to a `return` say which case of `frontFrame` holds.
 use mathlib.Core.Path.{sym, ◌∙◌}
 use native.Mathlib.Omega.{arith}
-use borrow.Author.Rules.{rules}
 use Rattle.script.proofs.Laws.Reader.{frame_no_length, frame_wrong_length, frame_cut_short, frame_whole}
 use Rattle.script.proofs.reader.frame_at.Goals as goal
 

@@ -1,14 +1,12 @@
 -- `script::reader::frame_part` meets its contract: a frame that was answered lies inside the script, and every other answer has an empty part.
 use mathlib.Core.Path.{◌≡◌, refl, sym, ap, ◌∙◌}
-use mathlib.Core.List.{List, [], ◌∷◌}
+use mathlib.Core.List.{List, []}
 use Prim.Native.Nat.{ℕ}
 use native.Mathlib.Omega.{arith}
-use Rattle.script.specs.contracts.reader.Found.{the_type}
 use Rattle.script.specs.declared.reader.Found.{Found}
 use Rattle.script.specs.declared.reader.Found.TheVariants.{Frame, Wait, End, Refused}
 use Rattle.script.specs.Answers.{part_of}
 use Rattle.script.proofs.Laws.Answers.{answer_told}
-use borrow.Author.Rules.{rules}
 use Rattle.script.proofs.reader.frame_part.Goals as goal
 
 -- all but a frame

@@ -1,7 +1,6 @@
 -- `script::reader::front_at` meets its contract: the tests that led to a `return` say which case of `front` holds.
 use mathlib.Core.Path.{sym, ap, ◌∙◌}
 use native.Mathlib.Omega.{arith}
-use borrow.Author.Rules.{rules}
 use lib.ListN.{drop, length-drop}
 use Rattle.script.specs.Reader.{answer}
 use Rattle.script.proofs.Laws.Places.{front_at_end, front_short, front_frame_lem, front_wait_lem, front_unknown}

@@ -1,6 +1,5 @@
 -- `script::reader::record_at` meets its contract: its two tests are those of `recordAt`.
 use mathlib.Core.Path.{sym, ◌∙◌}
-use borrow.Author.Rules.{rules}
 use Rattle.script.proofs.Laws.Reader.{record_at_long, record_at_past, record_at_inside}
 use Rattle.script.proofs.Laws.Values.{record_at_answered}
 use Rattle.script.proofs.reader.record_at.Goals as goal

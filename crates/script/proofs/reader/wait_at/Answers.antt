@@ -1,7 +1,6 @@
 -- `script::reader::wait_at` meets its contract: four bytes are left behind the mark, or fewer.
 use mathlib.Core.Path.{sym, ◌∙◌}
 use native.Mathlib.Omega.{arith}
-use borrow.Author.Rules.{rules}
 use Rattle.script.proofs.Laws.Reader.{wait_cut_short, wait_whole}
 use Rattle.script.proofs.reader.wait_at.Goals as goal
 

@@ -1,14 +1,10 @@
 -- `script::survey::survey_of` meets its contract. At the loop's head the records before `at` are counted, and the survey of what is left makes up the whole.
 -- The measure is what is left of the script. Assumes nothing.
 use mathlib.Core.Path.{sym, ◌∙◌}
-use mathlib.Core.List.{List}
-use Prim.Native.Nat.{ℕ, ◌-◌}
 use native.Mathlib.Omega.{arith}
-use borrow.Author.Rules.{rules}
-use lib.ListN.{length}
 use Rattle.script.specs.Record.{wait}
 use Rattle.script.proofs.Laws.Answers.{Stands, FrameTold, Told, front_told}
-use Rattle.script.proofs.Laws.Survey.{survey_long, Counted, count_start, count_frame, count_wait, count_end, count_refused}
+use Rattle.script.proofs.Laws.Survey.{survey_long, count_start, count_frame, count_wait, count_end, count_refused}
 use Rattle.script.proofs.survey.survey_of.Goals as goal
 
 pub returns-then-script-gt-LONGEST_SCRIPT : goal.returns-then-script-gt-LONGEST_SCRIPT

@@ -1,6 +1,5 @@
 -- `script::writer::put_frame` meets its contract: its bytes are the head and the frame, one behind the other.
 use lib.ListN.{length}
-use borrow.Author.Rules.{rules}
 use Rattle.script.specs.Record.{frame, encode_record, frame_head}
 use Rattle.common.proofs.Laws.Buffer.{Whole, left_start, left_room, left_turn, left_fits, left_last}
 use Rattle.script.proofs.writer.put_frame.Goals as goal

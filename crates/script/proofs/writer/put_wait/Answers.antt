@@ -1,5 +1,4 @@
 -- `script::writer::put_wait` meets its contract: its six bytes are the record.
-use borrow.Author.Rules.{rules}
 use Rattle.script.specs.Record.{encode_record}
 use Rattle.script.proofs.writer.put_wait.Goals as goal
 

@@ -1,7 +1,6 @@
 -- `state::power::new_chip` meets its contract: a known number's new state, or refusal 1.
 use Rattle.common.proofs.Laws.Choice.{yes, no}
 use Rattle.state.specs.Power.{new_chip}
-use borrow.Author.Rules.{rules}
 use Rattle.state.proofs.power.new_chip.Goals as goal
 
 pub returns-then-is_known : goal.returns-then-is_known

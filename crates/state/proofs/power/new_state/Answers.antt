@@ -1,7 +1,6 @@
 -- `state::power::new_state` meets its contract: the level is the chip's.
 use mathlib.Core.Path.{refl}
 use Rattle.state.specs.Power.{new_state}
-use borrow.Author.Rules.{rules}
 use Rattle.state.proofs.power.new_state.Goals as goal
 
 pub returns : goal.returns

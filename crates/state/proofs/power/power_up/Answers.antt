@@ -2,7 +2,6 @@
 use mathlib.Core.Path.{◌∙◌}
 use Rattle.state.specs.Power.{power_up, powered_up}
 use Rattle.state.proofs.Laws.Answer.{answer_sound, answer_unsound}
-use borrow.Author.Rules.{rules}
 use Rattle.state.proofs.power.power_up.Goals as goal
 
 pub returns-then-is_sound : goal.returns-then-is_sound

@@ -1,7 +1,6 @@
 -- `state::power::powered_up` meets its contract: the chip keeps its bits, or is as new.
 use Rattle.common.proofs.Laws.Choice.{yes, no}
 use Rattle.state.specs.Power.{powered_up}
-use borrow.Author.Rules.{rules}
 use Rattle.state.proofs.power.powered_up.Goals as goal
 
 pub returns-then-chip_of : goal.returns-then-chip_of

@@ -3,7 +3,6 @@ use mathlib.Core.Path.{refl}
 use borrow.Author.Tests.{eq-eqb, ne_eqb}
 use Rattle.common.proofs.Laws.Choice.{yes, no}
 use Rattle.state.specs.Protection.{first_protected}
-use borrow.Author.Rules.{rules}
 use Rattle.state.proofs.protection.first_protected.Goals as goal
 
 pub returns-then-chip : goal.returns-then-chip

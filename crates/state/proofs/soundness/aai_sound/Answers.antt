@@ -12,7 +12,6 @@ use Rattle.state.specs.Soundness.{aai_clauses}
 use Rattle.common.proofs.Laws.Booleans.{or_none_i}
 use Rattle.state.proofs.Laws.Clauses.{Holds, all_each, fails_at, decides_at, denied}
 use Rattle.state.proofs.Laws.Soundness.{of_running}
-use borrow.Author.Rules.{rules}
 use Rattle.state.proofs.soundness.aai_sound.Goals as goal
 
 pub returns-then-not-s : goal.returns-then-not-s

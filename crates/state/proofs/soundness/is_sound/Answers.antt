@@ -1,10 +1,8 @@
 -- `state::soundness::is_sound` meets its contract: the registers' clauses, AAI's, and those of bits pending.
 use mathlib.Core.Path.{◌≡◌, sym, ◌∙◌}
 use mathlib.Core.Bool.{true, ◌&&◌}
-use borrow.Author.Tests.{not-true, not-false}
 use Rattle.common.proofs.Laws.Booleans.{and_none, and_on, and_i}
 use Rattle.state.specs.Soundness.{all_of, register_clauses, aai_clauses, pending_clauses, is_sound}
-use borrow.Author.Rules.{rules}
 use Rattle.state.proofs.soundness.is_sound.Goals as goal
 
 pub returns-then-not-registers_sound : goal.returns-then-not-registers_sound

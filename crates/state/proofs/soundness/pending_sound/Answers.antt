@@ -10,7 +10,6 @@ use Rattle.state.specs.Status.{writable_bits}
 use Rattle.state.specs.Soundness.{pending_clauses}
 use Rattle.state.proofs.Laws.Clauses.{fails_at, decides_at, denied}
 use Rattle.state.proofs.Laws.Soundness.{of_writing}
-use borrow.Author.Rules.{rules}
 use Rattle.state.proofs.soundness.pending_sound.Goals as goal
 
 pub returns-then-not-s : goal.returns-then-not-s

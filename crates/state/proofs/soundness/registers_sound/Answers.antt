@@ -1,17 +1,15 @@
 -- `state::soundness::registers_sound` meets its contract: each early return names the clause that fails, and behind the last of them all hold.
 use mathlib.Core.Path.{◌≡◌, sym, ◌∙◌, ap}
-use mathlib.Core.Bool.{true, false, ◌||◌, not, true≢false}
-use mathlib.Core.Logic.{⊎_elim}
+use mathlib.Core.Bool.{true, false, not, true≢false}
 use Prim.Native.Nat.{◌≤◌, ◌<◌}
 use native.Mathlib.Omega.{arith}
-use borrow.Author.Tests.{not-true, not-false, lt-leb}
+use borrow.Author.Tests.{lt-leb}
 use Rattle.common.proofs.Laws.Booleans.{or_imp}
 use Rattle.state.specs.declared.State.{State}
 use Rattle.state.specs.State.{data_of}
 use Rattle.state.specs.Soundness.{register_clauses, Busy}
 use Rattle.state.proofs.Laws.Clauses.{fails_at, denied, implies_fails, implies_holds}
 use Rattle.state.proofs.Laws.Soundness.{of_registers, busy_holds, busy_fails}
-use borrow.Author.Rules.{rules}
 use Rattle.state.proofs.soundness.registers_sound.Goals as goal
 use Rattle.state.proofs.soundness.registers_sound.Goals.{then-s-gt0+else-chip-s+else-s, else-s-gt0, then-s-2+else-s-3+else-not-chip-s, else-s-2}
 

@@ -1,7 +1,6 @@
 -- `state::status::status_of` meets its contract: it is the sum of the definition's bits.
 use mathlib.Core.Path.{refl}
 use Rattle.state.specs.Status.{status_of}
-use borrow.Author.Rules.{rules}
 use Rattle.state.proofs.status.status_of.Goals as goal
 
 pub returns : goal.returns

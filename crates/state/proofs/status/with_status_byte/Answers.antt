@@ -1,6 +1,5 @@
 -- `state::status::with_status_byte` meets its contract: each bit is the byte's.
 use mathlib.Core.Path.{refl}
-use borrow.Author.Rules.{rules}
 use Rattle.state.proofs.status.with_status_byte.Goals as goal
 
 pub returns : goal.returns

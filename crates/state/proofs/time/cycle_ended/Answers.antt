@@ -3,7 +3,6 @@ use mathlib.Core.Path.{refl}
 use borrow.Author.Tests.{lt-ltb, le-ltb}
 use Rattle.common.proofs.Laws.Choice.{yes, no}
 use Rattle.state.specs.Time.{cycle_ended}
-use borrow.Author.Rules.{rules}
 use Rattle.state.proofs.time.cycle_ended.Goals as goal
 
 pub returns-then-s : goal.returns-then-s

@@ -2,7 +2,6 @@
 use mathlib.Core.Path.{◌∙◌}
 use Rattle.state.specs.Time.{pass_time, time_passed}
 use Rattle.state.proofs.Laws.Answer.{answer_sound, answer_unsound}
-use borrow.Author.Rules.{rules}
 use Rattle.state.proofs.time.pass_time.Goals as goal
 
 pub returns-then-is_sound : goal.returns-then-is_sound

@@ -3,7 +3,6 @@ use mathlib.Core.Path.{refl}
 use borrow.Author.Tests.{lt-ltb, le-ltb, eq-eqb, ne_eqb}
 use Rattle.common.proofs.Laws.Choice.{yes, no}
 use Rattle.state.specs.Time.{time_passed}
-use borrow.Author.Rules.{rules}
 use Rattle.state.proofs.time.time_passed.Goals as goal
 
 pub returns-then-n-s : goal.returns-then-n-s
