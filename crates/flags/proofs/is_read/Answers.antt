@@ -3,7 +3,6 @@ use mathlib.Core.Path.{◌≡◌, sym, ◌∙◌}
 use Prim.Native.Nat.{◌+◌, ◌≤◌}
 use native.Mathlib.Omega.{arith}
 use lib.ListN.{length}
-use borrow.Author.Rules.{rules}
 use Rattle.namechecks.specs.Refusals.{name_refusal}
 use Rattle.sectors.proofs.Laws.Images.{sector_sliced}
 use Rattle.namechecks.proofs.Laws.Opened.{name_refusal_of}

@@ -2,13 +2,11 @@
 -- the others where none has.
 use mathlib.Core.Path.{◌≡◌, sym, ap, ◌∙◌}
 use mathlib.Core.Bool.{true, false}
-use mathlib.Core.List.{List}
-use Prim.Native.Nat.{ℕ, ◌+◌, ◌≤◌}
+use Prim.Native.Nat.{◌+◌, ◌≤◌}
 use native.Mathlib.Omega.{arith}
 use lib.ListN.{length}
 use Rattle.names.specs.Records.{names_of, records_bytes}
 use Rattle.names.specs.Search.{is_on, Searched}
-use borrow.Author.Rules.{rules}
 use Rattle.sectors.specs.Images.{sector_part, wanted_mark}
 use Rattle.namechecks.specs.Refusals.{name_refusal}
 use Rattle.sectors.proofs.Laws.Images.{sector_sliced, sector_long}

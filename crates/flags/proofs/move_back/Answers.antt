@@ -1,11 +1,9 @@
 -- `flags::move_back` meets its contract: a refusal, or the planner's answer for an erased book with the scenes marked that the records name.
 use mathlib.Core.Path.{◌≡◌, refl, sym, ap, ◌∙◌}
 use mathlib.Core.Bool.{false}
-use mathlib.Core.List.{List, []}
-use Prim.Native.Nat.{ℕ}
+use mathlib.Core.List.{[]}
 use native.Mathlib.Omega.{arith}
 use lib.ListN.{length}
-use borrow.Author.Rules.{rules}
 use Rattle.common.specs.Refusals.{first_of}
 use Rattle.names.specs.Records.{names_of, padded}
 use Rattle.names.proofs.Laws.Padded.{padded_long}
@@ -43,7 +41,7 @@ mark_listed-unlisted-requires c =
     let opened : let a = c.args in ListOpened a.s a.array.now a.book a.sector a.list.now false = let a = c.args in list_opened a.s a.array.now a.book a.sector a.list.now false clear in
     let a = c.args in (
       ap length (sector_sliced a.array.now a.sector) ∙ sector_long a.array.now a.sector (names_fit _ _ _ _ _ _ opened),
-      opened.well-formed,
+      opened.good,
       opened.once,
       rw c.blank-used.ensures blank_bytes,
     )

@@ -1,11 +1,8 @@
 -- `flags::move_there` meets its contract: a refusal, or the planner's answer for the sector with the records of the read scenes.
 use mathlib.Core.Path.{◌≡◌, sym, ap, ◌∙◌}
 use mathlib.Core.Bool.{true, false}
-use mathlib.Core.List.{List}
-use Prim.Native.Nat.{ℕ}
 use native.Mathlib.Omega.{arith}
 use lib.ListN.{length}
-use borrow.Author.Rules.{rules}
 use borrow.Author.Tests.{not-true, not-false}
 use Rattle.common.specs.Refusals.{first_of}
 use Rattle.namelist.specs.Listed.{listed, names_in}
@@ -45,7 +42,7 @@ lay_move-requires c =
       c.blank-records.ensures,
       ap length (sector_sliced a.array.now a.sector) ∙ sector_long a.array.now a.sector (names_fit _ _ _ _ _ _ opened),
       omega (arith, book_fits _ _ _ _ _ _ opened),
-      opened.well-formed,
+      opened.good,
     )
 
 pub returns-then-not-lay_move : goal.returns-then-not-lay_move

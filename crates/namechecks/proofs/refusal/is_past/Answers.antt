@@ -1,10 +1,7 @@
 -- `namechecks::refusal::is_past` meets its contract: no scene from `names` up to this one is read.
-use mathlib.Core.Path.{◌≡◌, refl, sym, ◌∙◌}
-use Prim.Native.Nat.{◌-◌, ◌≤◌}
+use mathlib.Core.Path.{refl, sym, ◌∙◌}
 use native.Mathlib.Omega.{arith}
-use borrow.Author.Rules.{rules}
 use Rattle.book.specs.Book.{is_read}
-use Rattle.sectors.specs.Moves.{is_past}
 use Rattle.sectors.proofs.Laws.There.{past_found, past_turn, past_end}
 use Rattle.namechecks.proofs.refusal.is_past.Goals as goal
 

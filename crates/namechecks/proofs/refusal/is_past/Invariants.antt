@@ -1,11 +1,8 @@
 -- `namechecks::refusal::is_past` meets its contract: no scene from `names` up to this one is read.
-use mathlib.Core.Path.{◌≡◌, refl, sym, ◌∙◌}
+use mathlib.Core.Path.{◌≡◌}
 use Prim.Native.Nat.{◌-◌, ◌≤◌}
-use native.Mathlib.Omega.{arith}
-use borrow.Author.Rules.{rules}
 use Rattle.book.specs.Book.{is_read}
 use Rattle.sectors.specs.Moves.{is_past}
-use Rattle.sectors.proofs.Laws.There.{past_found, past_turn, past_end}
 use Rattle.namechecks.proofs.refusal.is_past.Given as goal
 
 abbrev pub invariant-loop-scene : goal.invariant-loop-scene

@@ -1,5 +1,5 @@
 -- `namechecks::refusal::name_refusal` meets its contract: the book's own refusals come first, and then the name's.
-use mathlib.Core.Path.{◌≡◌, refl, sym, ◌∙◌}
+use mathlib.Core.Path.{◌≡◌, refl, sym, ap, ◌∙◌}
 use mathlib.Core.Bool.{Bool, false, not}
 use mathlib.Core.List.{List, [], ◌∷◌, ◌++◌}
 use Prim.Native.Nat.{ℕ}
@@ -9,7 +9,6 @@ use Rattle.common.proofs.Laws.Choice.{yes, no}
 use Rattle.common.proofs.Laws.Refusals.{clear, first_before, first_behind}
 use Rattle.book.specs.Refusals.{book_refusals}
 use Rattle.names.specs.Records.{is_name}
-use borrow.Author.Rules.{rules}
 use Rattle.namechecks.proofs.refusal.name_refusal.Goals as goal
 
 pub returns-then-number-ne0 : goal.returns-then-number-ne0
@@ -22,10 +21,10 @@ pub returns-then-not-is_name : goal.returns-then-not-is_name
 returns-then-not-is_name c =
     let own : List (ℕ × Bool) = book_refusals c.args.s c.args.size c.args.sector false in
     let behind : first_of (own ++ ((wrong_names, not (is_name c.args.name.now)) ∷ [])) ≡ first_of (((wrong_names, not (is_name c.args.name.now)) ∷ [])) = first_behind own (((wrong_names, not (is_name c.args.name.now)) ∷ [])) (clear own refl (sym c.book_refusal-number.ensures ∙ c.if-number-ne0.false)) in
-    yes _ (rw c.is_name.ensures at c.if-not-is_name.true) refl ∙ sym (behind)
+    yes _ (ap not (rw c.is_name.ensures at c.if-not-is_name.true)) refl ∙ sym (behind)
 
 pub returns : goal.returns
 returns c =
     let own : List (ℕ × Bool) = book_refusals c.args.s c.args.size c.args.sector false in
     let behind : first_of (own ++ ((wrong_names, not (is_name c.args.name.now)) ∷ [])) ≡ first_of (((wrong_names, not (is_name c.args.name.now)) ∷ [])) = first_behind own (((wrong_names, not (is_name c.args.name.now)) ∷ [])) (clear own refl (sym c.book_refusal-number.ensures ∙ c.if-number-ne0.false)) in
-    no _ (rw c.is_name.ensures at c.if-not-is_name.false) refl ∙ sym (behind)
+    no _ (ap not (rw c.is_name.ensures at c.if-not-is_name.false)) refl ∙ sym (behind)

@@ -2,42 +2,41 @@
 use mathlib.Core.Path.{◌≡◌, refl, sym, ap, ◌∙◌}
 use mathlib.Core.Bool.{true, false}
 use mathlib.Core.List.{List, [], ◌∷◌, ◌++◌, append-nil}
-use Prim.Native.Nat.{ℕ, ◌+◌, ◌≤◌}
+use Prim.Native.Nat.{ℕ, ◌+◌, ◌-◌, ◌≤◌}
 use native.Mathlib.Omega.{arith}
 use lib.ListN.{length, take, drop}
 use lib.Seq.{length-take-le}
-use borrow.Author.Tests.{not-true, not-false}
+use Rattle.common.specs.Buffer.{Put}
 use Rattle.names.specs.Records.{record_bytes, records_bytes, padded}
 use Rattle.names.proofs.Laws.Padded.{padded_long}
 use Rattle.names.proofs.Laws.Walk.{records_one}
 use Rattle.sectors.specs.Images.{is_missing}
 use Rattle.sectors.proofs.Laws.Images.{laid_over, laid_missing, wanted_first, wanted_second}
-use borrow.Author.Rules.{rules}
 use Rattle.sectors.proofs.image.append.Goals as goal
 
--- what is there
-module _ (c : goal.After-put_record-behind) where
-  abbrev front : List ℕ
-  front = let a = c.args in take a.end a.image.now
+-- behind a front, the record of a name: in an erased sector without its mark, and over that with it
+module _ (image front name : List ℕ) (end : ℕ) (long : length front ≡ end) (fits : end + (3 + length name) ≤ 4096) where
+  one_fits : length front + length (records_bytes false (name ∷ [])) ≤ 4096
+  one_fits = omega (arith, long, ap length (records_one false name), fits)
 
-  abbrev new : List ℕ
-  new = records_bytes false (c.args.name.now ∷ [])
+  first_laid : (erased put first : List ℕ) (at behind : ℕ) → erased ≡ padded [] → Put 0 front erased put at → Put end (record_bytes false name) put first behind
+      → first ≡ padded (front ++ records_bytes false (name ∷ []))
+  first_laid erased put first at behind e p q =
+      let there = laid_over [] [] front _ _ _ _ refl e (omega arith) (omega (arith, long, fits)) p in
+      laid_over front [] (record_bytes false name) _ _ _ _ (sym long) (there ∙ ap padded (sym (append-nil front))) (omega arith) (omega (arith, long, fits)) q
+      ∙ ap (λ (l : List ℕ). padded (front ++ l)) (sym (records_one false name))
 
-  long : length front ≡ c.args.end
-  long = let a = c.args in length-take-le a.end a.image.now (omega arith)
+  first_missing : (first : List ℕ) (behind : ℕ) → first ≡ padded (front ++ records_bytes false (name ∷ [])) → behind ≡ end + length (record_bytes false name)
+      → is_missing (take (behind - end) (drop end first)) (drop end image) ≡ is_missing (records_bytes false (name ∷ [])) (drop (length front) image)
+  first_missing first behind is b =
+      laid_missing front (records_bytes false (name ∷ [])) _ image _ _ (sym long) (b ∙ ap (λ (l : List ℕ). end + length l) (sym (records_one false name))) is one_fits
 
-  new_is : new ≡ record_bytes false c.args.name.now
-  new_is = records_one false _
-
-  fits : length front + length new ≤ 4096
-  fits = omega (arith, long, ap length new_is, c.requires.3)
-
-  -- without its mark
-  first-laid : c.put_record-behind.new.buffer ≡ padded (front ++ new)
-  first-laid =
-      let erased = laid_over [] [] front _ _ _ _ refl c.requires.0 (omega arith) (omega (arith, fits)) c.put.ensures in
-      laid_over front [] (record_bytes false c.args.name.now) _ _ _ _ (sym long) (erased ∙ ap padded (sym (append-nil front))) (omega arith) (omega (arith, fits, ap length new_is)) c.put_record-behind.ensures
-      ∙ ap (λ (l : List ℕ). padded (front ++ l)) (sym new_is)
+  second_laid : (first second : List ℕ) (behind : ℕ) → first ≡ padded (front ++ records_bytes false (name ∷ [])) → Put end (record_bytes true name) first second behind
+      → second ≡ padded (front ++ records_bytes true (name ∷ []))
+  second_laid first second behind is p =
+      let one = ap length (records_one false name) in
+      laid_over front (records_bytes false (name ∷ [])) (record_bytes true name) _ _ _ _ (sym long) is (omega (arith, one)) (omega (arith, long, fits)) p
+      ∙ ap (λ (l : List ℕ). padded (front ++ l)) (sym (records_one true name))
 
 pub slice_bounds-put-end : goal.slice_bounds-put-end
 slice_bounds-put-end c = let a = c.args in sym (length-take-le a.end a.image.now (omega arith))
@@ -49,12 +48,21 @@ put-requires c =
 
 pub returns-then-not-is_missing : goal.returns-then-not-is_missing
 returns-then-not-is_missing c =
-    let told : c.is_missing.result ≡ is_missing (new c) (drop (length (front c)) c.args.image.now) = c.is_missing.ensures ∙ laid_missing (front c) (new c) _ _ _ _ (sym (long c)) (c.put_record-behind.ensures.behind ∙ ap (λ (l : List ℕ). c.args.end + length l) (sym (new_is c))) (first-laid c) (fits c) in
-    laid_over (front (goal.at.returns-then-not-is_missing c).After-put_record-behind) (new (goal.at.returns-then-not-is_missing c).After-put_record-behind) (record_bytes true c.args.name.now) _ _ _ _ (sym (long (goal.at.returns-then-not-is_missing c).After-put_record-behind)) (first-laid (goal.at.returns-then-not-is_missing c).After-put_record-behind) (omega (arith, ap length (new_is (goal.at.returns-then-not-is_missing c).After-put_record-behind))) (omega (arith, fits (goal.at.returns-then-not-is_missing c).After-put_record-behind, ap length (new_is (goal.at.returns-then-not-is_missing c).After-put_record-behind))) c.put_record.ensures
-    ∙ ap (λ (l : List ℕ). padded (front (goal.at.returns-then-not-is_missing c).After-put_record-behind ++ l)) (sym (records_one true _))
+    let a = c.args in
+    let front = take a.end a.image.now in
+    let long : length front ≡ a.end = length-take-le a.end a.image.now (omega arith) in
+    let fits = c.requires.3 in
+    let first = first_laid a.image.now front a.name.now a.end long fits _ _ _ _ _ c.requires.0 c.put.ensures c.put_record-behind.ensures in
+    let told = c.is_missing.ensures ∙ first_missing a.image.now front a.name.now a.end long fits _ _ first c.put_record-behind.ensures.behind in
+    second_laid a.image.now front a.name.now a.end long fits _ _ _ first c.put_record.ensures
     ∙ sym (wanted_second _ _ _ (sym told ∙ c.if-not-is_missing.true))
 
 pub returns-else-not-is_missing : goal.returns-else-not-is_missing
 returns-else-not-is_missing c =
-    let told : c.is_missing.result ≡ is_missing (new c) (drop (length (front c)) c.args.image.now) = c.is_missing.ensures ∙ laid_missing (front c) (new c) _ _ _ _ (sym (long c)) (c.put_record-behind.ensures.behind ∙ ap (λ (l : List ℕ). c.args.end + length l) (sym (new_is c))) (first-laid c) (fits c) in
-    first-laid (goal.at.returns-else-not-is_missing c).After-put_record-behind ∙ sym (wanted_first _ _ _ (sym told ∙ c.if-not-is_missing.false))
+    let a = c.args in
+    let front = take a.end a.image.now in
+    let long : length front ≡ a.end = length-take-le a.end a.image.now (omega arith) in
+    let fits = c.requires.3 in
+    let first = first_laid a.image.now front a.name.now a.end long fits _ _ _ _ _ c.requires.0 c.put.ensures c.put_record-behind.ensures in
+    let told = c.is_missing.ensures ∙ first_missing a.image.now front a.name.now a.end long fits _ _ first c.put_record-behind.ensures.behind in
+    first ∙ sym (wanted_first _ _ _ (sym told ∙ c.if-not-is_missing.false))

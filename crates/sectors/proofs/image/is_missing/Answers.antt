@@ -1,8 +1,6 @@
 -- `sectors::image::is_missing` meets its contract: the invariant says that the answer is that of the places left.
-use Prim.Native.Nat.{◌-◌}
 use native.Mathlib.Omega.{arith}
-use borrow.Author.Rules.{rules}
-use Rattle.sectors.proofs.Laws.Images.{MissingLeft, missing_start, missing_found, missing_again, missing_over}
+use Rattle.sectors.proofs.Laws.Images.{missing_start, missing_found, missing_again, missing_over}
 use Rattle.sectors.proofs.image.is_missing.Goals as goal
 
 pub loop-k-init : goal.loop-k-init

@@ -1,6 +1,4 @@
 -- `sectors::moving::lay_move` meets its contract: the records are laid into an erased sector, and over them the same with their marks.
-use borrow.Author.Rules.{rules}
-use borrow.Author.Tests.{not-true, not-false}
 use Rattle.sectors.proofs.Laws.Laid.{laid_not, laid_first, laid_second}
 use Rattle.sectors.proofs.moving.lay_move.Goals as goal
 

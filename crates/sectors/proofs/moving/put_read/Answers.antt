@@ -1,24 +1,11 @@
 -- `sectors::moving::put_read` meets its contract: the records of the names passed are laid, and those of the names left go behind them.
 use mathlib.Core.Path.{◌≡◌, sym, ◌∙◌}
-use mathlib.Core.Logic.{⊎_elim}
-use Prim.Native.Nat.{◌-◌}
 use native.Mathlib.Omega.{arith}
 use lib.ListN.{length}
 use borrow.Author.Rules.{rules}
-use Rattle.sectors.proofs.Laws.Moving.{
-  Moving,
-  moving_start,
-  moving_inside,
-  moving_scene,
-  moving_most,
-  moving_fits,
-  moving_too_long,
-  moving_read,
-  moving_unread,
-  moving_end,
-  moved_too_long,
-}
+use Rattle.sectors.proofs.Laws.Moving.{moving_start, moving_inside, moving_scene, moving_most, moving_fits, moving_too_long, moving_read, moving_unread, moving_end, moved_too_long}
 use Rattle.sectors.proofs.moving.put_read.Goals as goal
+use Rattle.sectors.proofs.moving.put_read.Goals.{then-scene_read+else-end-name, else-scene_read}
 
 pub loop-at-init : goal.loop-at-init
 loop-at-init c = moving_start _ _ _ _ _ c.requires.1
@@ -71,12 +58,13 @@ loop-at-preserved c =
     let h = c.loop-at-test.true in
     let e = c.name_at-name.ensures in
     let told = c.scene_read.ensures in
-    ⊎_elim
-    (λ w. let long : length l.wanted ≡ 4096 = search rules in
-    let next = moving_read _ _ _ _ _ _ _ _ _ l.invariant h _ e (sym told ∙ w.0.taken) _ _ w.1.left long w.3.ensures in
-    rw (w.4, w.5) next)
-    (λ w. rw (w.1, w.2) (moving_unread _ _ _ _ _ _ _ _ _ l.invariant h _ e (sym told ∙ w.0.left)))
-    c.if-scene_read.branch
+    elim c.if-scene_read.branch [
+      | then-scene_read+else-end-name w ↦
+          let long : length l.wanted ≡ 4096 = search rules in
+          let next = moving_read _ _ _ _ _ _ _ _ _ l.invariant h _ e (sym told ∙ w.if-scene_read.true) _ _ w.if-end-name.false long w.put_record-end.ensures in
+          rw (w.wanted-is, w.end-is) next
+      | else-scene_read w ↦ rw (w.wanted-is, w.end-is) (moving_unread _ _ _ _ _ _ _ _ _ l.invariant h _ e (sym told ∙ w.if-scene_read.false))
+    ]
 
 pub returns : goal.returns
 returns c = moving_end _ _ _ _ _ _ _ _ _ c.loop-at.invariant c.loop-at-test.false

@@ -1,23 +1,7 @@
 -- `sectors::moving::put_read` meets its contract: the records of the names passed are laid, and those of the names left go behind them.
-use mathlib.Core.Path.{◌≡◌, sym, ◌∙◌}
-use mathlib.Core.Logic.{⊎_elim}
 use Prim.Native.Nat.{◌-◌}
-use native.Mathlib.Omega.{arith}
 use lib.ListN.{length}
-use borrow.Author.Rules.{rules}
-use Rattle.sectors.proofs.Laws.Moving.{
-  Moving,
-  moving_start,
-  moving_inside,
-  moving_scene,
-  moving_most,
-  moving_fits,
-  moving_too_long,
-  moving_read,
-  moving_unread,
-  moving_end,
-  moved_too_long,
-}
+use Rattle.sectors.proofs.Laws.Moving.{Moving}
 use Rattle.sectors.proofs.moving.put_read.Given as goal
 
 abbrev pub invariant-loop-at : goal.invariant-loop-at

@@ -1,15 +1,14 @@
 -- `sectors::returning::mark_listed` meets its contract: the scenes of the records passed are marked, and the names that the list does not have are counted.
 use mathlib.Core.Path.{◌≡◌, ◌∙◌}
-use mathlib.Core.Logic.{⊎_elim}
-use Prim.Native.Nat.{◌-◌, ◌≤◌}
+use Prim.Native.Nat.{◌≤◌}
 use native.Mathlib.Omega.{arith}
 use lib.ListN.{length}
-use borrow.Author.Rules.{rules}
 use Rattle.names.proofs.Laws.Walk.{Step}
 use Rattle.namelist.specs.Listed.{listed, names_in}
 use Rattle.namelist.proofs.Laws.Listed.{good_count}
-use Rattle.sectors.proofs.Laws.Returning.{Returning, returning_start, returning_step, returning_marked, returning_counted, returning_used, returning_count}
+use Rattle.sectors.proofs.Laws.Returning.{returning_start, returning_step, returning_marked, returning_counted, returning_used, returning_count}
 use Rattle.sectors.proofs.returning.mark_listed.Goals as goal
+use Rattle.sectors.proofs.returning.mark_listed.Goals.{then-scene-names, else-scene-names}
 
 pub loop-size-init : goal.loop-size-init
 loop-size-init c = returning_start _ _ _ _ c.record_at-size.ensures
@@ -74,13 +73,14 @@ loop-size-preserved c =
     let counted : c.count-names.result ≡ length (names_in (listed c.args.list.now)) = c.count-names.ensures ∙ good_count c.args.list.now c.requires.1 in
     let step : Step c.args.image.now c.loop-size.at c.loop-size.size c.loop-size.invariant.done = returning_step _ _ _ _ _ _ _ c.loop-size.invariant c.loop-size-test.true in
     let place = c.position_of-scene in
-    let names = counted in
-    ⊎_elim
-    (λ w. rw (w.3 ∙ w.2.ensures, w.4)
-    (returning_marked _ _ _ _ _ _ _ c.loop-size.invariant step _ _ place.ensures c.record_at-size-in-loop-size.ensures (omega (arith, w.0.taken, names))))
-    (λ w. rw (w.1, w.2)
-    (returning_counted _ _ _ _ _ _ _ c.loop-size.invariant step _ _ place.ensures c.record_at-size-in-loop-size.ensures (omega (arith, w.0.left, names))))
-    c.if-scene-names.branch
+    elim c.if-scene-names.branch [
+      | then-scene-names w ↦
+          rw (w.used-is ∙ w.mark_scene.ensures, w.unlisted-is)
+          (returning_marked _ _ _ _ _ _ _ c.loop-size.invariant step _ _ place.ensures c.record_at-size-in-loop-size.ensures (omega (arith, w.if-scene-names.true, counted)))
+      | else-scene-names w ↦
+          rw (w.used-is, w.unlisted-is)
+          (returning_counted _ _ _ _ _ _ _ c.loop-size.invariant step _ _ place.ensures c.record_at-size-in-loop-size.ensures (omega (arith, w.if-scene-names.false, counted)))
+    ]
 
 pub returns : goal.returns
 returns c =
