@@ -1,6 +1,6 @@
 -- "A plan takes state, WP, array, start address and up to 4,096 wanted bytes, and writes the script" (01, "Scripts and plans"): an accepted plan, by
 -- its records.
-use Rattle.std.specs.Prelude.{◌≡◌, List, [], ◌++◌, ℕ, ◌+◌, ◌≤◌}
+use Rattle.std.specs.Prelude.{◌≡◌, List, [], ◌++◌, ℕ, ◌≤◌}
 use lib.ListN.{length, take, drop}
 use Rattle.state.specs.declared.State.{State}
 use Rattle.script.specs.Record.{Record, encode}

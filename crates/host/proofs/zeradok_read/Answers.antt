@@ -2,7 +2,6 @@
 use mathlib.Core.Path.{ap, ◌∙◌}
 use Rattle.host.specs.Read.{record_of}
 use Rattle.host.specs.declared.reader.Record.{Record}
-use borrow.Author.Rules.{rules}
 use Rattle.host.proofs.zeradok_read.Goals as goal
 
 pub returns : goal.returns

@@ -37,7 +37,7 @@ use Rattle.rules.specs.FlagsCalls.{NameReadCall, NameMarkCall}
 use Rattle.rules.proofs.Laws.Tests.{means_not}
 use Rattle.rules.proofs.Laws.Numbered.{row, numbered}
 use Rattle.rules.proofs.Laws.Conditions.{means_not_sound, means_wrong_array}
-use Rattle.rules.proofs.Laws.FlagsRead.{sector_part_lem, means_name, means_member, means_no_member, names_are, sector_names_are}
+use Rattle.rules.proofs.Laws.FlagsRead.{sector_part_lem, means_name, means_member, means_no_member, sector_names_are}
 use Rattle.rules.proofs.Laws.FlagsPlans.{mark_wants, mark_wants_only}
 use Rattle.rules.proofs.Laws.FlagsRefused.{means_wrong_sector, means_mark_long, planner_rows}
 

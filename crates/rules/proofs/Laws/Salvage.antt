@@ -25,7 +25,6 @@ use Rattle.salvage.specs.Answers.{salvage_refusals, salvage_refusal, salvaged_of
 use Rattle.salvage.proofs.Laws.Divided.{divided}
 use Rattle.salvage.proofs.Laws.Answers.{refusal_of, never_10, opened, number_is}
 use Rattle.salvage.proofs.Laws.Again.{salvaged_reads_back, names_survive, again_kept, again_dropped, unhurt_same}
-use Rattle.rules.specs.Numbered.{◌when◌}
 use Rattle.rules.specs.Salvage.{GoodRecord, holders, BeginsFrom, Rising, bytes_of, Listed, SectorSalvaged, SalvageCall, SalvageRules}
 use Rattle.rules.proofs.Laws.Tests.{means_equal, means_less, means_not, means_or}
 use Rattle.rules.proofs.Laws.Numbered.{row, numbered}

@@ -1,6 +1,5 @@
 -- `host::reader::record_of` meets its contract: each answer's fields, case by case.
 use mathlib.Core.Path.{refl}
-use borrow.Author.Rules.{rules}
 use Rattle.host.proofs.reader.record_of.Goals as goal
 
 pub returns-in-Frame : goal.returns-in-Frame
