@@ -10,7 +10,8 @@ below = {}
 for line in open('crates.txt', encoding='utf-8'):
     name, colon, rest = line.split('#')[0].partition(':')
     if colon:
-        below[name.strip()] = rest.split()
+        # what stands behind the name says how the crate is built
+        below[name.split()[0]] = rest.split()
 below = {name: [d for d in deps if d in below] for name, deps in below.items()}
 
 
