@@ -1,4 +1,4 @@
--- A page program as 01 says it, byte after byte (the code finds each byte by a formula; `page-laid` says that it is the same).
+-- A page program as 01 says it, byte after byte (the code finds each byte by a formula; `page_laid` says that it is the same).
 use Rattle.std.specs.Prelude.{cond, List, [], ◌∷◌, ℕ, ◌+◌, ◌%◌, eqb}
 
 -- a page's buffer, by offset, with byte d laid at one

@@ -1,5 +1,5 @@
 -- Read this page first, from its last record up: what the user demands (00), in his words, the sample sessions (01), and what was asked for since (02).
--- `demands-met` (proofs/Laws/Demands.antt) is a value of `Demands`, made of the theorems themselves: where one of them is lost or says less, that value
+-- `demands_met` (proofs/Laws/Demands.antt) is a value of `Demands`, made of the theorems themselves: where one of them is lost or says less, that value
 -- no longer checks.
 use Rattle.std.specs.Prelude.{◌≡◌, Bool, true, false, List, ℕ, ◌+◌, ◌≤◌, ◌<◌, length, take, drop}
 use Rattle.common.specs.Bits.{Bytes}
@@ -151,7 +151,7 @@ pub record FrameAsIn01 (wp : Bool) (f : List ℕ) (d : Device) (line : Line) : T
   pub writes : Writes wp f d line
   -- no frame is left without a rule
   pub ruled : Ruled f d
-  -- and of an interrupted one, from what the whole one does; that of a status write that takes time is in `status-write` below
+  -- and of an interrupted one, from what the whole one does; that of a status write that takes time is in `status_write` below
   pub interrupted : begins_cycle wp f d ≡ false → (shows : ℕ → Shown) (registers : State) (change : Change) → Does wp f d line shows registers change
       → (mask : List ℕ) → Bytes mask → cut_number wp f mask d line ≡ 0 → Interrupted wp f mask d line shows registers change
   pub wrong_mask_lem : begins_cycle wp f d ≡ false → (shows : ℕ → Shown) (registers : State) (change : Change) → Does wp f d line shows registers change

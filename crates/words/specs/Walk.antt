@@ -1,4 +1,4 @@
--- Step 2 word by word, as the code goes (ours; `words-are-runs` says that it is step 2), and what is counted on the way.
+-- Step 2 word by word, as the code goes (ours; `words_are_runs` says that it is step 2), and what is counted on the way.
 use Rattle.std.specs.Prelude.{Bool, true, false, not, ◌&&◌, List, [], ◌∷◌, ◌++◌, ℕ, zero, suc, ◌+◌}
 use Rattle.script.specs.Record.{Record, frame, wait}
 use Rattle.common.specs.Bits.{bit}

@@ -1,5 +1,5 @@
 -- What every chip has in common: all that a proof may ask of a chip, of its data and of its instructions' kinds.
--- A further chip is one more line of `models-regular`.
+-- A further chip is one more line of `models_regular`.
 -- Assumes nothing.
 use mathlib.Core.Path.{◌≡◌, refl, sym, ap, ◌∙◌}
 use mathlib.Core.Bool.{Bool, true, false, ◌&&◌, ◌||◌, not, false≢true, true≢false}

@@ -1,4 +1,4 @@
--- What `commandOf` gives fits the state that the frame was read at.
+-- What `command_of` gives fits the state that the frame was read at.
 -- Assumes nothing.
 use mathlib.Core.Path.{◌≡◌, refl}
 use mathlib.Core.Bool.{Bool, true, false, ◌||◌, not}

@@ -1,4 +1,4 @@
--- The laws of `within` and `countBelow`: which places are meant, and how many of them lie below one. A search below a place.
+-- The laws of `within` and `count_below`: which places are meant, and how many of them lie below one. A search below a place.
 -- Assumes nothing.
 use mathlib.Core.Path.{◌≡◌, refl, ap, ◌∙◌}
 use mathlib.Core.Bool.{Bool, true, false, cond}

@@ -1,4 +1,4 @@
--- The laws of `onRun`: a loop over a run of places, a store a turn or a strip of places a turn.
+-- The laws of `on_run`: a loop over a run of places, a store a turn or a strip of places a turn.
 -- Assumes nothing.
 use mathlib.Core.Path.{◌≡◌, refl, ap, ◌∙◌}
 use mathlib.Core.Bool.{and-false}

@@ -1,4 +1,4 @@
--- The laws of `positionIn`: a name's position is that of its first place, and where it has none, how many names there are. The search by turns.
+-- The laws of `position_in`: a name's position is that of its first place, and where it has none, how many names there are. The search by turns.
 -- Assumes nothing.
 use mathlib.Core.Path.{◌≡◌, refl, sym, ap, ◌∙◌}
 use mathlib.Core.Bool.{true, false, false≢true}

@@ -1,4 +1,4 @@
--- The laws of `isTwice`: one name more at the end, and no name stands twice exactly where names at two places differ.
+-- The laws of `is_twice`: one name more at the end, and no name stands twice exactly where names at two places differ.
 -- Assumes nothing.
 use mathlib.Core.Path.{◌≡◌, refl, sym, ap, ◌∙◌}
 use mathlib.Core.Bool.{Bool, true, false, false≢true, true≢false, ◌||◌}

@@ -1,4 +1,4 @@
--- What the reader of a record finds: the laws of `allName`, `isName` and `front` by the tests of the code.
+-- What the reader of a record finds: the laws of `all_name`, `is_name` and `front` by the tests of the code.
 -- Assumes nothing.
 use mathlib.Core.Path.{◌≡◌, refl, sym, ap, ◌∙◌}
 use mathlib.Core.Bool.{Bool, true, false, cond, ◌&&◌, ◌||◌}

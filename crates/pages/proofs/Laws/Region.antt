@@ -17,7 +17,7 @@ use Rattle.pages.proofs.Laws.Pages.{part_within, part_first, part_last, part_hol
 
 -- a region of n bytes from an address on; nothing outside it changes
 module _ (d : ℕ → Bool) (start n : ℕ) (in_region : (k : ℕ) → d k ≡ true → within start n k ≡ true) where
-  -- how many addresses of the region lie below one (`count-within`)
+  -- how many addresses of the region lie below one (`count_within`)
   abbrev region_below : ℕ → ℕ
   region_below x = min (x - start) n
 

@@ -1,4 +1,4 @@
--- The first and the last changing address of some: what `beforeFirst` and `throughLast` say of every address, and that looking at every address finds them.
+-- The first and the last changing address of some: what `before_first` and `through_last` say of every address, and that looking at every address finds them.
 -- Names: `first-` or `last-`, then the claim.
 -- Assumes nothing.
 use mathlib.Core.Path.{◌≡◌, refl, sym, ap, ◌∙◌}

@@ -124,8 +124,8 @@ module _ (wp : Bool) (chip : Device) (start : ℕ) (wanted buffer after : List �
       let parts : script ≡ encode before ++ encode others = script_is ∙ ap encode e ∙ encode_append before others in
       records_before_ran wp before others chip (shown_by_all wp plan chip) (all_fit_left before others (rw e at fit)) (rw parts at whole) line long
 
-  -- nothing is run yet. From here `run-to-frame` and `run-to-wait` go on, record by record; or `run-to-front`, by the script's part before an offset that
-  -- `read-frame` and `read-wait` have come to
+  -- nothing is run yet. From here `run_to_frame` and `run_to_wait` go on, record by record; or `run_to_front`, by the script's part before an offset that
+  -- `read_frame` and `read_wait` have come to
   pub plan_begun : RunTo wp script chip 0 chip
   plan_begun = run_to_start ready reads_back
 

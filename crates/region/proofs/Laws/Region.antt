@@ -1,4 +1,4 @@
--- The laws of a region: `wantedAt`, `changes` and `rises` inside it and outside, at its i-th byte, and `any_of` one address at a time.
+-- The laws of a region: `wanted_at`, `changes` and `rises` inside it and outside, at its i-th byte, and `any_of` one address at a time.
 -- Assumes nothing.
 use mathlib.Core.Path.{◌≡◌, refl, sym, ap, ◌∙◌}
 use mathlib.Core.Bool.{Bool, true, false, not}

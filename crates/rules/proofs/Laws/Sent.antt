@@ -1,4 +1,4 @@
--- A region's bytes and what is sent for them, in the planner's own words: `changes`, `wantedAt`, an address as three bytes. What is said of them
+-- A region's bytes and what is sent for them, in the planner's own words: `changes`, `wanted_at`, an address as three bytes. What is said of them
 -- fixes the bytes of a frame.
 -- Assumes nothing.
 use mathlib.Core.Path.{◌≡◌, refl, sym, ◌∙◌}

@@ -1,4 +1,4 @@
--- The laws of `run` and `shownByAll`: records one after another (`-append`), how long their line is, and what every run keeps.
+-- The laws of `run` and `shown_by_all`: records one after another (`-append`), how long their line is, and what every run keeps.
 -- Assumes nothing.
 use mathlib.Core.Path.{◌≡◌, refl, sym, ap, ◌∙◌}
 use mathlib.Core.Bool.{Bool}

@@ -1,4 +1,4 @@
--- The laws of `piecesIn`: a record or a byte a turn, what is proved of every walk, and stretches.
+-- The laws of `pieces_in`: a record or a byte a turn, what is proved of every walk, and stretches.
 -- Assumes nothing.
 use mathlib.Core.Path.{◌≡◌, refl, sym, ap, ◌∙◌}
 use mathlib.Core.List.{List, [], ◌∷◌}

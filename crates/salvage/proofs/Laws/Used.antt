@@ -1,4 +1,4 @@
--- The laws of `usedLength`: all behind it is FF, the byte before its end is not, and that fixes it.
+-- The laws of `used_length`: all behind it is FF, the byte before its end is not, and that fixes it.
 -- Assumes nothing.
 use mathlib.Core.Path.{◌≡◌, refl, sym, ap, ◌∙◌}
 use mathlib.Core.Bool.{◌&&◌, true≢false}

@@ -152,7 +152,7 @@ longest_last (suc n) =
     let further : 5 * suc n ≡ suc (suc (suc (suc (suc (5 * n))))) = omega arith in
     rw further (longest_last n)
 
--- 820 stretches in 4,096 bytes: `room-enough` is not too high
+-- 820 stretches in 4,096 bytes: `room_enough_lem` is not too high
 pub longest_fits : length (longest 819) ≡ 4096
 longest_fits = longest_length 819
 

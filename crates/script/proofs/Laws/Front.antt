@@ -1,4 +1,4 @@
--- The laws of `front`: it reads back what `encodeRecord` wrote, and what is known of a record that it reads.
+-- The laws of `front`: it reads back what `encode_record` wrote, and what is known of a record that it reads.
 -- Assumes nothing.
 use mathlib.Core.Path.{◌≡◌, refl, sym, ap, ap₂, ◌∙◌}
 use mathlib.Core.Bool.{true, false, ◌&&◌, ◌||◌}

@@ -1,4 +1,4 @@
--- The laws of `recordAt`: its answer by the tests on the script and the offset, in the order of 01.
+-- The laws of `record_at`: its answer by the tests on the script and the offset, in the order of 01.
 -- Assumes nothing.
 use mathlib.Core.Path.{◌≡◌, refl, sym, ap, ◌∙◌}
 use mathlib.Core.Bool.{true, false, ◌||◌}

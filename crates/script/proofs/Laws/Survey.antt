@@ -1,4 +1,4 @@
--- The laws of `surveyOf`: its refusals, what is left to look through after some records were counted, what number 0 tells. Two results of the call are equal.
+-- The laws of `survey_of`: its refusals, what is left to look through after some records were counted, what number 0 tells. Two results of the call are equal.
 -- Assumes nothing.
 use mathlib.Core.Path.{◌≡◌, refl, sym, ap, ◌∙◌}
 use mathlib.Core.List.{List, [], ◌∷◌}

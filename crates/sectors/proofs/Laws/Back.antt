@@ -1,4 +1,4 @@
--- From names back to a book: the laws of `listedScenes`, `unlisted` and `wantedBack`.
+-- From names back to a book: the laws of `listed_scenes`, `unlisted` and `wanted_back`.
 -- Assumes nothing.
 use mathlib.Core.Path.{◌≡◌, refl, sym, ap, ◌∙◌}
 use mathlib.Core.Bool.{true, false, cond}

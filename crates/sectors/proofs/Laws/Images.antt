@@ -1,4 +1,4 @@
--- A sector of the array, and what of it is missing: the laws of `sectorPart`, `isMissing` and `wantedNames`.
+-- A sector of the array, and what of it is missing: the laws of `sector_part`, `is_missing` and `wanted_names`.
 -- Assumes nothing.
 use mathlib.Core.Path.{◌≡◌, refl, sym, ap, ◌∙◌}
 use mathlib.Core.Bool.{Bool, true, false, false≢true, true≢false, not, ◌&&◌, ◌||◌}

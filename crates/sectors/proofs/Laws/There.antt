@@ -1,4 +1,4 @@
--- From a book to names: the laws of `readNames`, `isPast` and `wantedMove`.
+-- From a book to names: the laws of `read_names`, `is_past` and `wanted_move`.
 -- Assumes nothing.
 use mathlib.Core.Path.{◌≡◌, refl, sym, ap, ◌∙◌}
 use mathlib.Core.Bool.{Bool, true, false, true≢false, ◌||◌}

@@ -1,4 +1,4 @@
--- What the state is when time has passed, case by case: `time-…` of `timePassed`, `pass-time-…` of the call.
+-- What the state is when time has passed, case by case: `time-…` of `time_passed`, `pass-time-…` of the call.
 -- Assumes nothing.
 use mathlib.Core.Path.{◌≡◌, refl, sym}
 use mathlib.Core.Bool.{true, false}

@@ -1,4 +1,4 @@
--- The test `isSound` says exactly `Sound`.
+-- The test `is_sound` says exactly `Sound`.
 -- Assumes nothing.
 use mathlib.Core.Path.{◌≡◌, refl, sym, ap, ◌∙◌}
 use mathlib.Core.Bool.{true, false, ◌&&◌, ◌||◌, not, false≢true}

@@ -69,7 +69,7 @@ module _ (s : State) (wp : Bool) (array : List ℕ) (start : ℕ) (wanted : List
 
 -- ---- an erased chip, all of it protected
 
--- where plans go by words: the most bytes, with the most time or with the most frames; the third is then the most that `frames-or-time` leaves
+-- where plans go by words: the most bytes, with the most time or with the most frames; the third is then the most that `frames_or_time` leaves
 abbrev pub most_time : Measure
 most_time = record { length = worst_by_words.length; frames = 2055; microseconds = worst_by_words.microseconds }
 

@@ -1,4 +1,4 @@
--- `script::reader::frame_at` meets its contract: the tests that led to a `return` say which case of `frontFrame` holds.
+-- `script::reader::frame_at` meets its contract: the tests that led to a `return` say which case of `front_frame` holds.
 use mathlib.Core.Path.{sym, ◌∙◌}
 use native.Mathlib.Omega.{arith}
 use Rattle.script.proofs.Laws.Reader.{frame_no_length, frame_wrong_length, frame_cut_short, frame_whole}

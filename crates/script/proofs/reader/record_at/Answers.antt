@@ -1,4 +1,4 @@
--- `script::reader::record_at` meets its contract: its two tests are those of `recordAt`.
+-- `script::reader::record_at` meets its contract: its two tests are those of `record_at`.
 use mathlib.Core.Path.{sym, ◌∙◌}
 use Rattle.script.proofs.Laws.Reader.{record_at_long, record_at_past, record_at_inside}
 use Rattle.script.proofs.Laws.Values.{record_at_answered}
