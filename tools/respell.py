@@ -15,7 +15,7 @@ import re
 import sys
 
 NAME = r'[^\s(){}.;,@"«»]+'
-FUNCTION = re.compile(r"/(Proof|Answers|Invariants)\.antt$")
+FUNCTION = re.compile(r"/proofs/(?!Laws/).*(Proof|Answers|Invariants)\.antt$")
 USE = re.compile(r"^\s*(?:pub )?use ([^\s{]+?)\.?\{([^}]*)\}", re.M)
 DECLARED = re.compile(r"(?m)^\s*(?:(?:pub|abbrev|unfoldable|data|record) )*((?:" + NAME + r" )+?):(?= )")
 COMMENT = {".antt": re.compile(r"--[^\n]*"), ".rt": re.compile(r"//[^\n]*")}
@@ -85,7 +85,7 @@ def turn_code(text, new):
 
 
 def turn_quoted(text, new):
-    return re.sub(r"`[^`\n]*`", lambda m: turn_code(m.group(), new), text)
+    return re.sub(r"`([^`\n]*)`", lambda m: f"`{turn_code(m[1], new)}`", text)
 
 
 def turn(path, text, new):
@@ -123,7 +123,7 @@ def main():
     for path in sorted(glob.glob("crates/*/must-fail/*.edit")):
         text = read(path)
         write(path, turn_edit(text, new), text)
-    for path in ["README.md", *sorted(glob.glob("docs/**/*.md", recursive=True)), "tests/README.md"]:
+    for path in ["README.md", *sorted(glob.glob("docs/*.md")), "tests/README.md"]:
         text = read(path)
         write(path, turn_quoted(text, new), text)
     print(f"{len(new)} names")

@@ -20,15 +20,15 @@ use Rattle.book.specs.Answers.{is_read_told, count_told, Marks}
 
 module _ (s : State) (array : List ℕ) (sector : ℕ) where
   module _ (scene : ℕ) where
-    pub is-read-refused : (number : ℕ) → 0 < number → book_refusal s array sector (scene ∷ []) ≡ number
+    pub is_read_refused : (number : ℕ) → 0 < number → book_refusal s array sector (scene ∷ []) ≡ number
         → is_read_told s array sector scene ≡ record { number = number; state = s; value = 0 }
     unfolding is_read_told
-    is-read-refused number h e = rw e (told_refused number s (bit (is_read array sector scene) 1) h)
+    is_read_refused number h e = rw e (told_refused number s (bit (is_read array sector scene) 1) h)
 
-    pub is-read-told : book_refusal s array sector (scene ∷ []) ≡ 0
+    pub is_read_told_lem : book_refusal s array sector (scene ∷ []) ≡ 0
         → is_read_told s array sector scene ≡ record { number = 0; state = s; value = bit (is_read array sector scene) 1 }
     unfolding is_read_told
-    is-read-told e = told_value (book_refusal s array sector (scene ∷ [])) s (bit (is_read array sector scene) 1) e
+    is_read_told_lem e = told_value (book_refusal s array sector (scene ∷ [])) s (bit (is_read array sector scene) 1) e
 
     pub is_read_state : (is_read_told s array sector scene).state ≡ s
     unfolding is_read_told
@@ -42,9 +42,9 @@ module _ (s : State) (array : List ℕ) (sector : ℕ) where
   unfolding count_told
   count_refused number h e = rw e (told_refused number s (count_read array sector) h)
 
-  pub count-told : book_refusal s array sector [] ≡ 0 → count_told s array sector ≡ record { number = 0; state = s; value = count_read array sector }
+  pub count_told_lem : book_refusal s array sector [] ≡ 0 → count_told s array sector ≡ record { number = 0; state = s; value = count_read array sector }
   unfolding count_told
-  count-told e = told_value (book_refusal s array sector []) s (count_read array sector) e
+  count_told_lem e = told_value (book_refusal s array sector []) s (count_read array sector) e
 
   pub count_state : (count_told s array sector).state ≡ s
   unfolding count_told

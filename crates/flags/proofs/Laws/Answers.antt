@@ -68,41 +68,41 @@ unfolding is_name_read
 is_read_is array sector name = refl
 
 -- as a search in it tells
-pub name-found : (array : List ℕ) (sector : ℕ) (name image : List ℕ) (r : Search) → image ≡ sector_part array sector → Searched image name r
+pub name_found : (array : List ℕ) (sector : ℕ) (name image : List ℕ) (r : Search) → image ≡ sector_part array sector → Searched image name r
     → r.found ≡ is_name_read array sector name
-name-found array sector name image r is searched =
+name_found array sector name image r is searched =
     searched.found_is ∙ ap (λ (l : List ℕ). is_on name (names_of l)) is ∙ sym (is_read_is array sector name)
 
 -- ---- the refusals about one name, and behind them a marking's
 
 module _ (s : State) (array : List ℕ) (sector : ℕ) (name : List ℕ) where
-  abbrev name-rows : List (ℕ × Bool)
-  name-rows = name_refusals s (length array) sector name
+  abbrev name_rows : List (ℕ × Bool)
+  name_rows = name_refusals s (length array) sector name
 
-  abbrev full-row : List (ℕ × Bool)
-  full-row = (records_too_long, is_full (names_of (sector_part array sector)) name) ∷ []
+  abbrev full_row : List (ℕ × Bool)
+  full_row = (records_too_long, is_full (names_of (sector_part array sector)) name) ∷ []
 
-  pub mark-own : (number : ℕ) → 0 < number → name_refusal s array sector name ≡ number → mark_refusal s array sector name ≡ number
-  mark-own number h e = mark_refusal_of s array sector name ∙ first_before name-rows full-row number h (sym (name_refusal_of s array sector name) ∙ e)
+  pub mark_own : (number : ℕ) → 0 < number → name_refusal s array sector name ≡ number → mark_refusal s array sector name ≡ number
+  mark_own number h e = mark_refusal_of s array sector name ∙ first_before name_rows full_row number h (sym (name_refusal_of s array sector name) ∙ e)
 
   module _ (none : name_refusal s array sector name ≡ 0) where
-    name-clear : Clear name-rows
-    name-clear = clear name-rows refl (sym (name_refusal_of s array sector name) ∙ none)
+    name_clear : Clear name_rows
+    name_clear = clear name_rows refl (sym (name_refusal_of s array sector name) ∙ none)
 
-    pub name-inside : sector + 4096 ≤ length array
-    name-inside =
-        rw (eqb-true (length array) (data_of s).size (not-false (eqb (length array) (data_of s).size) name-clear.1.0))
-        (sector_fits s sector (not-false (is_sector (data_of s).size sector) name-clear.1.1.0))
+    pub name_inside : sector + 4096 ≤ length array
+    name_inside =
+        rw (eqb-true (length array) (data_of s).size (not-false (eqb (length array) (data_of s).size) name_clear.1.0))
+        (sector_fits s sector (not-false (is_sector (data_of s).size sector) name_clear.1.1.0))
 
-    pub name-short : length name ≤ 32
-    name-short = name_most name (not-false (is_name name) name-clear.1.1.1.0)
+    pub name_short : length name ≤ 32
+    name_short = name_most name (not-false (is_name name) name_clear.1.1.1.0)
 
-    mark_behind : mark_refusal s array sector name ≡ first_of full-row
-    mark_behind = mark_refusal_of s array sector name ∙ first_behind name-rows full-row name-clear
+    mark_behind : mark_refusal s array sector name ≡ first_of full_row
+    mark_behind = mark_refusal_of s array sector name ∙ first_behind name_rows full_row name_clear
 
     -- a record has the name
-    pub mark-none-there : is_on name (names_of (sector_part array sector)) ≡ true → mark_refusal s array sector name ≡ 0
-    mark-none-there on = mark_behind ∙ rw on refl
+    pub mark_none_there : is_on name (names_of (sector_part array sector)) ≡ true → mark_refusal s array sector name ≡ 0
+    mark_none_there on = mark_behind ∙ rw on refl
 
     -- none has it
     module _ (off : is_on name (names_of (sector_part array sector)) ≡ false) where
@@ -118,11 +118,11 @@ module _ (s : State) (array : List ℕ) (sector : ℕ) (name : List ℕ) where
             ap length (records_one true name),
           )
 
-      pub mark-full : 4096 < length (records_bytes true there) + (3 + length name) → mark_refusal s array sector name ≡ records_too_long
-      mark-full over = mark_behind ∙ rw (off, lt-ltb 4096 (length (records_bytes true (there ++ (name ∷ [])))) (omega (arith, over, with_it))) refl
+      pub mark_full : 4096 < length (records_bytes true there) + (3 + length name) → mark_refusal s array sector name ≡ records_too_long
+      mark_full over = mark_behind ∙ rw (off, lt-ltb 4096 (length (records_bytes true (there ++ (name ∷ [])))) (omega (arith, over, with_it))) refl
 
-      pub mark-none-roomy : length (records_bytes true there) + (3 + length name) ≤ 4096 → mark_refusal s array sector name ≡ 0
-      mark-none-roomy fits = mark_behind ∙ rw (off, le-ltb 4096 (length (records_bytes true (there ++ (name ∷ [])))) (omega (arith, fits, with_it))) refl
+      pub mark_none_roomy : length (records_bytes true there) + (3 + length name) ≤ 4096 → mark_refusal s array sector name ≡ 0
+      mark_none_roomy fits = mark_behind ∙ rw (off, le-ltb 4096 (length (records_bytes true (there ++ (name ∷ [])))) (omega (arith, fits, with_it))) refl
 
 -- ---- the sector that is wanted, as the code finds it
 
@@ -152,8 +152,8 @@ mark_want_long image name long roomy =
 
 module _ (image : List ℕ) where
   -- the records lie in the sector, at its front
-  pub records-inside : length (records_bytes true (names_of image)) ≤ length image
-  records-inside = let s = names_split image in omega (arith, ap length s.is, length-append (records_bytes true (names_of image)) s.rest)
+  pub records_inside : length (records_bytes true (names_of image)) ≤ length image
+  records_inside = let s = names_split image in omega (arith, ap length s.is, length-append (records_bytes true (names_of image)) s.rest)
 
   pub records_front : take (length (records_bytes true (names_of image))) image ≡ records_bytes true (names_of image)
   records_front =
@@ -161,18 +161,18 @@ module _ (image : List ℕ) where
       ap (take (length (records_bytes true (names_of image)))) s.is ∙ take-append_seam (records_bytes true (names_of image)) s.rest
 
   module _ (name : List ℕ) (r : Search) (searched : Searched image name r) where
-    pub found-wanted : r.found ≡ true → image ≡ wanted_mark image name
-    found-wanted e = sym (mark_there image name (sym searched.found_is ∙ e))
+    pub found_wanted : r.found ≡ true → image ≡ wanted_mark image name
+    found_wanted e = sym (mark_there image name (sym searched.found_is ∙ e))
 
     -- behind the records
-    pub appended-wanted : r.found ≡ false → (after : List ℕ) → after ≡ wanted_names image (take r.end image) (name ∷ []) → after ≡ wanted_mark image name
-    appended-wanted e after is =
+    pub appended_wanted : r.found ≡ false → (after : List ℕ) → after ≡ wanted_names image (take r.end image) (name ∷ []) → after ≡ wanted_mark image name
+    appended_wanted e after is =
         is
         ∙ ap (λ (l : List ℕ). wanted_names image l (name ∷ [])) (ap (λ (k : ℕ). take k image) (searched.end_is e) ∙ records_front)
         ∙ sym (mark_appends image name (sym searched.found_is ∙ e))
 
-    pub appended-long : r.found ≡ false → r.end + (3 + length name) ≤ 4096 → length (wanted_mark image name) ≡ 4096
-    appended-long e fits =
+    pub appended_long : r.found ≡ false → r.end + (3 + length name) ≤ 4096 → length (wanted_mark image name) ≡ 4096
+    appended_long e fits =
         ap length (mark_appends image name (sym searched.found_is ∙ e))
         ∙ names_want_long image (records_bytes true (names_of image)) (name ∷ []) (omega (arith, fits, searched.end_is e, ap length (records_one true name)))
 
@@ -185,12 +185,12 @@ module _ (s : State) (wp : Bool) (array : List ℕ) (sector : ℕ) (name buffer 
   abbrev mark_want : List ℕ
   mark_want = wanted_mark (sector_part array sector) name
 
-  pub name-marks-refused : (n : ℕ) → 0 < n → mark_number ≡ n → NameMarks s wp array sector name buffer buffer (refused_plan n s)
-  name-marks-refused = unless_refused mark_number s wp array sector mark_want buffer
+  pub name_marks_refused : (n : ℕ) → 0 < n → mark_number ≡ n → NameMarks s wp array sector name buffer buffer (refused_plan n s)
+  name_marks_refused = unless_refused mark_number s wp array sector mark_want buffer
 
-  pub name-marks-planned : (after : List ℕ) (r : Planned) → mark_number ≡ 0 → Plans s wp array sector mark_want buffer after r
+  pub name_marks_planned : (after : List ℕ) (r : Planned) → mark_number ≡ 0 → Plans s wp array sector mark_want buffer after r
       → NameMarks s wp array sector name buffer after r
-  name-marks-planned = unless_planned mark_number s wp array sector mark_want buffer
+  name_marks_planned = unless_planned mark_number s wp array sector mark_want buffer
 
   pub name_marks_state : (after : List ℕ) (r : Planned) → NameMarks s wp array sector name buffer after r → r.state ≡ s
   name_marks_state = unless_state mark_number s wp array sector mark_want buffer
@@ -209,21 +209,21 @@ module _ (s : State) (array : List ℕ) (book sector : ℕ) (list : List ℕ) wh
   abbrev list_rows : List (ℕ × Bool)
   list_rows = list_refusals s array book sector list true
 
-  abbrev long-row : List (ℕ × Bool)
-  long-row = (records_too_long, are_too_long (moved_names array book list)) ∷ []
+  abbrev long_row : List (ℕ × Bool)
+  long_row = (records_too_long, are_too_long (moved_names array book list)) ∷ []
 
   pub move_own : (number : ℕ) → 0 < number → first_of list_rows ≡ number → move_refusal s array book sector list ≡ number
-  move_own number h e = move_refusal_of s array book sector list ∙ first_before list_rows long-row number h e
+  move_own number h e = move_refusal_of s array book sector list ∙ first_before list_rows long_row number h e
 
   module _ (none : first_of list_rows ≡ 0) where
-    move-behind : move_refusal s array book sector list ≡ first_of long-row
-    move-behind = move_refusal_of s array book sector list ∙ first_behind list_rows long-row (clear list_rows refl none)
+    move_behind : move_refusal s array book sector list ≡ first_of long_row
+    move_behind = move_refusal_of s array book sector list ∙ first_behind list_rows long_row (clear list_rows refl none)
 
-    pub move-full : are_too_long (moved_names array book list) ≡ true → move_refusal s array book sector list ≡ records_too_long
-    move-full e = move-behind ∙ rw e refl
+    pub move_full : are_too_long (moved_names array book list) ≡ true → move_refusal s array book sector list ≡ records_too_long
+    move_full e = move_behind ∙ rw e refl
 
-    pub move-none : are_too_long (moved_names array book list) ≡ false → move_refusal s array book sector list ≡ 0
-    move-none e = move-behind ∙ rw e refl
+    pub move_none : are_too_long (moved_names array book list) ≡ false → move_refusal s array book sector list ≡ 0
+    move_none e = move_behind ∙ rw e refl
 
 pub move_want_long : (image array : List ℕ) (book : ℕ) (list : List ℕ) → are_too_long (moved_names array book list) ≡ false
     → length (wanted_move image (is_read array book) (names_in (listed list))) ≡ 4096
@@ -239,12 +239,12 @@ module _ (s : State) (wp : Bool) (array : List ℕ) (book sector : ℕ) (list bu
   abbrev move_want : List ℕ
   move_want = wanted_move (sector_part array sector) (is_read array book) (names_in (listed list))
 
-  pub moves-refused : (n : ℕ) → 0 < n → move_number ≡ n → BookMoves s wp array book sector list buffer buffer (refused_plan n s)
-  moves-refused = unless_refused move_number s wp array sector move_want buffer
+  pub moves_refused : (n : ℕ) → 0 < n → move_number ≡ n → BookMoves s wp array book sector list buffer buffer (refused_plan n s)
+  moves_refused = unless_refused move_number s wp array sector move_want buffer
 
-  pub moves-planned : (after : List ℕ) (r : Planned) → move_number ≡ 0 → Plans s wp array sector move_want buffer after r
+  pub moves_planned : (after : List ℕ) (r : Planned) → move_number ≡ 0 → Plans s wp array sector move_want buffer after r
       → BookMoves s wp array book sector list buffer after r
-  moves-planned = unless_planned move_number s wp array sector move_want buffer
+  moves_planned = unless_planned move_number s wp array sector move_want buffer
 
   pub moves_state : (after : List ℕ) (r : Planned) → BookMoves s wp array book sector list buffer after r → r.state ≡ s
   moves_state = unless_state move_number s wp array sector move_want buffer
@@ -260,8 +260,8 @@ module _ (s : State) (wp : Bool) (array : List ℕ) (book sector : ℕ) (list bu
 -- ---- the way back
 
 -- an answer is its plan and its count
-abbrev withCount : Planned → ℕ → Returned
-withCount p n = record { number = p.number; state = p.state; length = p.length; frames = p.frames; microseconds = p.microseconds; unlisted = n }
+abbrev with_count : Planned → ℕ → Returned
+with_count p n = record { number = p.number; state = p.state; length = p.length; frames = p.frames; microseconds = p.microseconds; unlisted = n }
 
 module _ (s : State) (wp : Bool) (array : List ℕ) (sector book : ℕ) (list buffer : List ℕ) where
   abbrev back_number : ℕ
@@ -294,7 +294,7 @@ module _ (s : State) (wp : Bool) (array : List ℕ) (sector book : ℕ) (list bu
     returns_untouched h =
         let u = unless_untouched back_number s wp array book back_want buffer after (planned_of r) answer.plan h in
         let none : r.unlisted ≡ 0 = answer.unlisted_is ∙ rw (ne_eqb r.number 0 (λ z. omega arith)) refl in
-        (ap₂ withCount u.0 none, u.1)
+        (ap₂ with_count u.0 none, u.1)
 
   pub returns_determined : (after₁ after₂ : List ℕ) (r₁ r₂ : Returned) → BookReturns s wp array sector book list buffer after₁ r₁
       → BookReturns s wp array sector book list buffer after₂ r₂ → (r₁ ≡ r₂) × (after₁ ≡ after₂)
@@ -302,4 +302,4 @@ module _ (s : State) (wp : Bool) (array : List ℕ) (sector book : ℕ) (list bu
       let d = unless_determined back_number s wp array book back_want buffer after₁ after₂ (planned_of r₁) (planned_of r₂) p.plan q.plan in
       let same : r₁.number ≡ r₂.number = ap (λ (x : Planned). x.number) d.0 in
       let counts : r₁.unlisted ≡ r₂.unlisted = p.unlisted_is ∙ ap (λ (k : ℕ). accepted k back_count 0) same ∙ sym q.unlisted_is in
-      (ap₂ withCount d.0 counts, d.1)
+      (ap₂ with_count d.0 counts, d.1)

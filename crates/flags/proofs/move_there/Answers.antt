@@ -14,13 +14,13 @@ use Rattle.namechecks.specs.Refusals.{list_refusals}
 use Rattle.namechecks.specs.Opened.{ListOpened}
 use Rattle.sectors.proofs.Laws.Images.{sector_sliced, sector_long}
 use Rattle.namechecks.proofs.Laws.Opened.{list_opened, book_fits, names_fit}
-use Rattle.flags.proofs.Laws.Answers.{move_own, move-full, move-none, move_want_long, moves-refused, moves-planned}
+use Rattle.flags.proofs.Laws.Answers.{move_own, move_full, move_none, move_want_long, moves_refused, moves_planned}
 use Rattle.flags.proofs.move_there.Goals as goal
 
 pub returns-then-number-ne0 : goal.returns-then-number-ne0
 returns-then-number-ne0 c =
     rw c.refuse_plan.ensures
-    (moves-refused _ _ _ _ _ _ _ _ (omega arith) (move_own _ _ _ _ _ _ (omega arith) (sym c.list_refusal-number.ensures)))
+    (moves_refused _ _ _ _ _ _ _ _ (omega arith) (move_own _ _ _ _ _ _ (omega arith) (sym c.list_refusal-number.ensures)))
 
 pub overflow_add-end : goal.overflow_add-end
 overflow_add-end c =
@@ -49,7 +49,7 @@ pub returns-then-not-lay_move : goal.returns-then-not-lay_move
 returns-then-not-lay_move c =
     let clear : let a = c.args in first_of (list_refusals a.s a.array.now a.book a.sector a.list.now true) ≡ 0 = sym c.list_refusal-number.ensures ∙ c.if-number-ne0.false in
     let over = not-false (are_too_long ((let a = c.args in moved_names a.array.now a.book a.list.now))) (sym c.lay_move.ensures.fits_is ∙ c.if-not-lay_move.true) in
-    rw c.refuse_plan-then-not-lay_move.ensures (moves-refused _ _ _ _ _ _ _ _ (omega arith) (move-full _ _ _ _ _ clear over))
+    rw c.refuse_plan-then-not-lay_move.ensures (moves_refused _ _ _ _ _ _ _ _ (omega arith) (move_full _ _ _ _ _ clear over))
 
 pub slice_bounds-plan_update-end : goal.slice_bounds-plan_update-end
 slice_bounds-plan_update-end c =
@@ -63,5 +63,5 @@ returns c =
     let clear : let a = c.args in first_of (list_refusals a.s a.array.now a.book a.sector a.list.now true) ≡ 0 = sym c.list_refusal-number.ensures ∙ c.if-number-ne0.false in
     let fits : are_too_long ((let a = c.args in moved_names a.array.now a.book a.list.now)) ≡ false = not-true (are_too_long ((let a = c.args in moved_names a.array.now a.book a.list.now))) (sym c.lay_move.ensures.fits_is ∙ c.if-not-lay_move.false) in
     let laid : let a = c.args in c.lay_move.new.wanted ≡ wanted_move (sector_part a.array.now a.sector) (is_read a.array.now a.book) (names_in (listed a.list.now)) = let a = c.args in rw (sector_sliced a.array.now a.sector) at (c.lay_move.ensures.laid fits) in
-    moves-planned _ _ _ _ _ _ _ _ _ (move-none _ _ _ _ _ clear fits)
+    moves_planned _ _ _ _ _ _ _ _ _ (move_none _ _ _ _ _ clear fits)
     (rw laid at c.plan_update.ensures)

@@ -26,9 +26,9 @@ use Rattle.salvage.proofs.Laws.Kept.{records_fit}
 
 -- ---- how long both parts can be
 
-pub kept-most : (sector : List ℕ) → length (kept_bytes sector) ≤ length sector
+pub kept_most : (sector : List ℕ) → length (kept_bytes sector) ≤ length sector
 unfolding kept_bytes pieces_of
-kept-most sector = omega (arith, records_fit (used_part sector), used_part_length sector, (used_is sector).inside)
+kept_most sector = omega (arith, records_fit (used_part sector), used_part_length sector, (used_is sector).inside)
 
 -- "a list of this length never meets refusal 10"
 pub room_enough_lem : (sector : List ℕ) → length sector ≤ 4096 → length (dropped_bytes sector) ≤ 3280
@@ -36,17 +36,17 @@ unfolding dropped_bytes pieces_of
 room_enough_lem sector h = list_most (used_part sector) (omega (arith, used_part_length sector, (used_is sector).inside))
 
 -- the used bytes, as the walks are lent them
-module _ (sector used : List ℕ) (used-are : used ≡ used_part sector) where
-  pub used-most : length sector ≡ 4096 → length used ≤ 4096
-  used-most h = omega (arith, ap length used-are, used_part_length sector, (used_is sector).inside)
+module _ (sector used : List ℕ) (used_are : used ≡ used_part sector) where
+  pub used_most : length sector ≡ 4096 → length used ≤ 4096
+  used_most h = omega (arith, ap length used_are, used_part_length sector, (used_is sector).inside)
 
   pub list_is : list_bytes (stretches_from 0 (pieces_in used)) ≡ dropped_bytes sector
   unfolding dropped_bytes pieces_of
-  list_is = rw used-are refl
+  list_is = rw used_are refl
 
   records_are : records_bytes true (kept_names (pieces_in used)) ≡ kept_bytes sector
   unfolding kept_bytes pieces_of
-  records_are = rw used-are refl
+  records_are = rw used_are refl
 
 -- ---- of one call
 
@@ -57,45 +57,45 @@ module _ (sector kept dropped : List ℕ) where
   unfolding salvage_refusal
   refusal_of = refl
 
-  pub refused-2 : not (eqb (length sector) 4096) || not (eqb (length kept) 4096) ≡ true → salvage_refusal sector kept dropped ≡ wrong_array
+  pub refused_2 : not (eqb (length sector) 4096) || not (eqb (length kept) 4096) ≡ true → salvage_refusal sector kept dropped ≡ wrong_array
   unfolding salvage_refusal
-  refused-2 h = rw h refl
+  refused_2 h = rw h refl
 
   module _ (sized : not (eqb (length sector) 4096) || not (eqb (length kept) 4096) ≡ false) where
-    pub refused-10 : length dropped < length (dropped_bytes sector) → salvage_refusal sector kept dropped ≡ buffer_too_short
+    pub refused_10 : length dropped < length (dropped_bytes sector) → salvage_refusal sector kept dropped ≡ buffer_too_short
     unfolding salvage_refusal
-    refused-10 h = rw (sized, lt-ltb (length dropped) (length (dropped_bytes sector)) h) refl
+    refused_10 h = rw (sized, lt-ltb (length dropped) (length (dropped_bytes sector)) h) refl
 
     pub accepted : length (dropped_bytes sector) ≤ length dropped → salvage_refusal sector kept dropped ≡ 0
     unfolding salvage_refusal
     accepted h = rw (sized, le-ltb (length dropped) (length (dropped_bytes sector)) h) refl
 
-    pub sector-sized : length sector ≡ 4096
-    sector-sized =
+    pub sector_sized : length sector ≡ 4096
+    sector_sized =
         eqb-true (length sector) 4096 (not-false (eqb (length sector) 4096) (or_none_l (not (eqb (length sector) 4096)) (not (eqb (length kept) 4096)) sized))
 
-    pub kept-sized : length kept ≡ 4096
-    kept-sized =
+    pub kept_sized : length kept ≡ 4096
+    kept_sized =
         eqb-true (length kept) 4096 (not-false (eqb (length kept) 4096) (or_none_r (not (eqb (length sector) 4096)) (not (eqb (length kept) 4096)) sized))
 
   -- 3,280 bytes are never too few
   pub never_10 : 3280 ≤ length dropped → salvage_refusal sector kept dropped ≡ buffer_too_short → ⊥
   never_10 room e =
       let g = (given_exactly (salvage_refusals sector kept dropped) buffer_too_short (omega arith)).when (sym refusal_of ∙ e) in
-      omega (arith, ltb-true (length dropped) (length (dropped_bytes sector)) g.1, room_enough_lem sector (omega (arith, sector-sized g.0)))
+      omega (arith, ltb-true (length dropped) (length (dropped_bytes sector)) g.1, room_enough_lem sector (omega (arith, sector_sized g.0)))
 
   -- no refusal holds
   pub record Opened : Type 0 where
     pub sectors_sized : length sector ≡ 4096
-    pub buffer-sized : length kept ≡ 4096
+    pub buffer_sized : length kept ≡ 4096
     pub list_fits : length (dropped_bytes sector) ≤ length dropped
 
   pub opened : salvage_refusal sector kept dropped ≡ 0 → Opened
   opened e =
       let c = clear (salvage_refusals sector kept dropped) refl (sym refusal_of ∙ e) in
       record {
-        sectors_sized = sector-sized c.0;
-        buffer-sized = kept-sized c.0;
+        sectors_sized = sector_sized c.0;
+        buffer_sized = kept_sized c.0;
         list_fits = ltb-false (length dropped) (length (dropped_bytes sector)) c.1.0;
       }
 
@@ -121,20 +121,20 @@ module _ (sector kept dropped : List ℕ) where
   salvages_given e = record { refused = λ n g q. absurd (omega (arith, e, q)); salvaged = λ _. (refl, (refl, refl)) }
 
   -- the walks over the used bytes, and what is filled up
-  module _ (used : List ℕ) (used-are : used ≡ used_part sector) where
+  module _ (used : List ℕ) (used_are : used ≡ used_part sector) where
     pub size_is : {laid after : List ℕ} {size : ℕ} → PiecesPut used kept laid dropped after size → size ≡ length (kept_bytes sector)
-    size_is p = p.records_put.behind ∙ omega (arith, ap length (records_are sector used used-are))
+    size_is p = p.records_put.behind ∙ omega (arith, ap length (records_are sector used used_are))
 
-    pub salvages-all : {laid kept_after dropped_after : List ℕ} {size : ℕ} (n : ℕ) → salvage_refusal sector kept dropped ≡ 0 → length sector ≡ 4096 → length kept ≡ 4096
+    pub salvages_all : {laid kept_after dropped_after : List ℕ} {size : ℕ} (n : ℕ) → salvage_refusal sector kept dropped ≡ 0 → length sector ≡ 4096 → length kept ≡ 4096
         → n ≡ length (list_bytes (stretches_from 0 (pieces_in used))) → PiecesPut used kept laid dropped dropped_after size
         → kept_after ≡ mapi (on_run size 4096 (λ k x. 0xff)) laid
         → Salvages sector kept dropped kept_after dropped_after record { number = 0; length = n; kept = size }
-    salvages-all {laid} {kept_after} {dropped_after} {size} n e long room l p f =
+    salvages_all {laid} {kept_after} {dropped_after} {size} n e long room l p f =
         rw (
-          f ∙ ap (mapi (on_run size 4096 (λ k x. 0xff))) (p.records_put.stored ∙ ap (λ (bytes : List ℕ). written 0 bytes kept) (records_are sector used used-are))
-              ∙ padded_filled (kept_bytes sector) kept size (size_is p) (omega (arith, size_is p, kept-most sector)) room,
-          p.list_put ∙ ap (λ (bytes : List ℕ). written 0 bytes dropped) (list_is sector used used-are),
-          l ∙ ap length (list_is sector used used-are),
+          f ∙ ap (mapi (on_run size 4096 (λ k x. 0xff))) (p.records_put.stored ∙ ap (λ (bytes : List ℕ). written 0 bytes kept) (records_are sector used used_are))
+              ∙ padded_filled (kept_bytes sector) kept size (size_is p) (omega (arith, size_is p, kept_most sector)) room,
+          p.list_put ∙ ap (λ (bytes : List ℕ). written 0 bytes dropped) (list_is sector used used_are),
+          l ∙ ap length (list_is sector used used_are),
           size_is p,
         ) (salvages_given e)
 
