@@ -28,7 +28,8 @@ fn put_read(
     let mut end: usize = 0;
     while at < list.len() {
         let name = name_at(list, at);
-        if book::telling::scene_read(array, book, scene) {
+        let read = book::telling::scene_read(array, book, scene);
+        if read {
             if SECTOR - end < HEAD + name.len() {
                 return TOO_LONG;
             }

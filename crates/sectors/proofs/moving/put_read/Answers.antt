@@ -5,7 +5,7 @@ use lib.ListN.{length}
 use borrow.Author.Rules.{rules}
 use Rattle.sectors.proofs.Laws.Moving.{moving_start, moving_inside, moving_scene, moving_most, moving_fits, moving_too_long, moving_read, moving_unread, moving_end, moved_too_long}
 use Rattle.sectors.proofs.moving.put_read.Goals as goal
-use Rattle.sectors.proofs.moving.put_read.Goals.{then-scene_read+else-end-name, else-scene_read}
+use Rattle.sectors.proofs.moving.put_read.Goals.{then-read+else-end-name, else-read}
 
 pub loop-at-init : goal.loop-at-init
 loop-at-init c = moving_start _ _ _ _ _ c.requires.1
@@ -13,8 +13,8 @@ loop-at-init c = moving_start _ _ _ _ _ c.requires.1
 pub name_at-name-requires : goal.name_at-name-requires
 name_at-name-requires c = (c.loop-at-test.true, moving_inside _ _ _ _ _ _ _ _ _ c.loop-at.invariant c.loop-at-test.true)
 
-pub scene_read-requires : goal.scene_read-requires
-scene_read-requires c =
+pub scene_read-read-requires : goal.scene_read-read-requires
+scene_read-read-requires c =
     (c.requires.0, moving_scene _ _ _ _ _ _ _ _ _ c.loop-at.invariant c.loop-at-test.true c.requires.1)
 
 pub overflow_sub-end : goal.overflow_sub-end
@@ -30,7 +30,7 @@ returns-then-end-name c =
     let l = c.loop-at in
     moved_too_long _ _ _ _ _ _
     (moving_too_long _ _ _ _ _ _ _ _ _ l.invariant c.loop-at-test.true _ c.name_at-name.ensures
-    (sym c.scene_read.ensures ∙ c.if-scene_read.true) c.if-end-name.true)
+    (cc) c.if-end-name.true)
 
 pub put_record-end-requires : goal.put_record-end-requires
 put_record-end-requires c =
@@ -57,13 +57,12 @@ loop-at-preserved c =
     let l = c.loop-at in
     let h = c.loop-at-test.true in
     let e = c.name_at-name.ensures in
-    let told = c.scene_read.ensures in
-    elim c.if-scene_read.branch [
-      | then-scene_read+else-end-name w ↦
+    elim c.if-read.branch [
+      | then-read+else-end-name w ↦
           let long : length l.wanted ≡ 4096 = search rules in
-          let next = moving_read _ _ _ _ _ _ _ _ _ l.invariant h _ e (sym told ∙ w.if-scene_read.true) _ _ w.if-end-name.false long w.put_record-end.ensures in
+          let next = moving_read _ _ _ _ _ _ _ _ _ l.invariant h _ e (cc) _ _ w.if-end-name.false long w.put_record-end.ensures in
           rw (w.wanted-is, w.end-is) next
-      | else-scene_read w ↦ rw (w.wanted-is, w.end-is) (moving_unread _ _ _ _ _ _ _ _ _ l.invariant h _ e (sym told ∙ w.if-scene_read.false))
+      | else-read w ↦ rw (w.wanted-is, w.end-is) (moving_unread _ _ _ _ _ _ _ _ _ l.invariant h _ e (cc))
     ]
 
 pub returns : goal.returns
