@@ -17,7 +17,7 @@ TOLD = r'rt: must-fail (\S+)\.edit: (.*)'
 REFUSED, UNFIT, LIMIT = 'refused, as it must be', ' (only because a proof file ', ' (only by a limit '
 # what a layer that stands above `promises` is refused for
 WALLS = {
-    'does not use the library': 'a crate that is not listed cannot be named',
+    'cannot be had': 'a crate that is not listed cannot be named',
     'cannot be unfolded': 'a name that is passed on shut cannot be opened',
 }
 HEAD = '''# The edits, and the first error of each
