@@ -6,22 +6,22 @@ use Rattle.chip.specs.Chip.{Model, kind_of}
 use Rattle.chip.proofs.Laws.Models.{model_of_8, model_of_other}
 use Rattle.chip.proofs.kind_of.Goals as goal
 
-on-8 : (number op : ℕ) → number ≡ 8 → kind_in instructions_008a op ≡ kind_of number op
+on_8 : (number op : ℕ) → number ≡ 8 → kind_in instructions_008a op ≡ kind_of number op
 unfolding kind_of
-on-8 number op e = ap (λ (m : Model). kind_in m.instructions op) (model_of_8 number e)
+on_8 number op e = ap (λ (m : Model). kind_in m.instructions op) (model_of_8 number e)
 
-on-other : (number op : ℕ) → (number ≡ 8 → ⊥) → kind_in instructions_05pa op ≡ kind_of number op
+on_other : (number op : ℕ) → (number ≡ 8 → ⊥) → kind_in instructions_05pa op ≡ kind_of number op
 unfolding kind_of
-on-other number op n = ap (λ (m : Model). kind_in m.instructions op) (model_of_other number n)
+on_other number op n = ap (λ (m : Model). kind_in m.instructions op) (model_of_other number n)
 
 pub returns-then-number-eq8 : goal.returns-then-number-eq8
-returns-then-number-eq8 c = c.kind.ensures ∙ on-8 _ _ c.if-number-eq8.true
+returns-then-number-eq8 c = c.kind.ensures ∙ on_8 _ _ c.if-number-eq8.true
 
 pub returns-then-op-lt128 : goal.returns-then-op-lt128
-returns-then-op-lt128 c = c.kind-then-op-lt128.ensures ∙ on-other _ _ c.if-number-eq8.false
+returns-then-op-lt128 c = c.kind-then-op-lt128.ensures ∙ on_other _ _ c.if-number-eq8.false
 
 pub returns-then-number-eq8-2 : goal.returns-then-number-eq8-2
-returns-then-number-eq8-2 c = c.kind-then-number-eq8-2.ensures ∙ on-8 _ _ c.if-number-eq8-2.true
+returns-then-number-eq8-2 c = c.kind-then-number-eq8-2.ensures ∙ on_8 _ _ c.if-number-eq8-2.true
 
 pub returns : goal.returns
-returns c = c.kind-2.ensures ∙ on-other _ _ c.if-number-eq8-2.false
+returns c = c.kind-2.ensures ∙ on_other _ _ c.if-number-eq8-2.false

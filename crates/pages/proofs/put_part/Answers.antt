@@ -1,9 +1,9 @@
 -- `pages::put_part` meets its contract: the part's bytes are laid one behind the other.
 use mathlib.Core.Path.{◌≡◌}
-use mathlib.Core.List.{[], ◌∷◌}
-use Prim.Native.Nat.{◌-◌}
+use mathlib.Core.List.{List, [], ◌∷◌}
+use Prim.Native.Nat.{ℕ, ◌+◌, ◌-◌, ◌≤◌, ◌<◌}
 use native.Mathlib.Omega.{arith}
-use lib.ListN.{take, drop}
+use lib.ListN.{length, take, drop}
 use Rattle.script.specs.Record.{frame, encode_record, encode, frame_head}
 use Rattle.region.specs.Region.{wanted_at}
 use Rattle.common.specs.Numbers.{address_bytes}
@@ -13,52 +13,56 @@ use Rattle.pages.specs.Pages.{part_records}
 use Rattle.pages.proofs.Laws.Parts.{part_bytes, part_bytes_lem}
 use Rattle.pages.proofs.put_part.Goals as goal
 
+-- nothing is laid yet, and there is room for all that is to be
+part_begun : (start : ℕ) (wanted : List ℕ) (from to at : ℕ) (buffer : List ℕ) → start ≤ from → from < to → to ≤ start + length wanted
+    → at + length (encode (part_records (wanted_at start wanted) from (to - from))) ≤ length buffer → Whole at (part_bytes start wanted from to) buffer
+part_begun start wanted from to at buffer low some high room = left_start _ _ _ (rw (part_bytes_lem start wanted from to low some high) at room)
+
 pub returns-then-from-to : goal.returns-then-from-to
 unfolding part_records
 returns-then-from-to c = let e : c.args.part.to - c.args.part.from ≡ 0 = omega arith in rw (e, encode_none) (put_none _ _)
 
 pub put_frame-enabled-requires : goal.put_frame-enabled-requires
 put_frame-enabled-requires c =
-    let sent-bytes : let a = c.args in encode (part_records (wanted_at a.start a.wanted.now) a.part.from (a.part.to - a.part.from)) ≡ part_bytes a.start a.wanted.now a.part.from a.part.to = let a = c.args in part_bytes_lem a.start a.wanted.now a.part.from a.part.to (omega arith) (omega arith) (omega arith) in
-    let begun : let a = c.args in Whole a.at (part_bytes a.start a.wanted.now a.part.from a.part.to) a.buffer.now = left_start _ _ _ (rw sent-bytes at c.requires.from_in_bounds) in record {
+    let a = c.args in
+    let begun = part_begun a.start a.wanted.now a.part.from a.part.to a.at a.buffer.now (omega arith) (omega arith) (omega arith) c.requires.from_in_bounds in record {
       bytes_len_bound = omega arith;
       bytes_in_bounds = left_room (encode_record (frame (0x06 ∷ []))) _ begun;
     }
 
 pub put_head-headed-requires : goal.put_head-headed-requires
 put_head-headed-requires c =
-    let sent-bytes : let a = c.args in encode (part_records (wanted_at a.start a.wanted.now) a.part.from (a.part.to - a.part.from)) ≡ part_bytes a.start a.wanted.now a.part.from a.part.to = let a = c.args in part_bytes_lem a.start a.wanted.now a.part.from a.part.to (omega arith) (omega arith) (omega arith) in
-    let begun : let a = c.args in Whole a.at (part_bytes a.start a.wanted.now a.part.from a.part.to) a.buffer.now = left_start _ _ _ (rw sent-bytes at c.requires.from_in_bounds) in record {
+    let a = c.args in
+    let begun = part_begun a.start a.wanted.now a.part.from a.part.to a.at a.buffer.now (omega arith) (omega arith) (omega arith) c.requires.from_in_bounds in record {
       n_le_longest_frame = omega arith;
       at_in_bounds = left_room (frame_head _) _ (left_turn _ _ begun c.put_frame-enabled.ensures);
     }
 
 pub put-addressed-requires : goal.put-addressed-requires
 put-addressed-requires c =
-    let sent-bytes : let a = c.args in encode (part_records (wanted_at a.start a.wanted.now) a.part.from (a.part.to - a.part.from)) ≡ part_bytes a.start a.wanted.now a.part.from a.part.to = let a = c.args in part_bytes_lem a.start a.wanted.now a.part.from a.part.to (omega arith) (omega arith) (omega arith) in
-    let begun : let a = c.args in Whole a.at (part_bytes a.start a.wanted.now a.part.from a.part.to) a.buffer.now = left_start _ _ _ (rw sent-bytes at c.requires.from_in_bounds) in
+    let a = c.args in
+    let begun = part_begun a.start a.wanted.now a.part.from a.part.to a.at a.buffer.now (omega arith) (omega arith) (omega arith) c.requires.from_in_bounds in
     left_room (0x02 ∷ address_bytes _) _ (left_turn (frame_head _) _ (left_turn _ _ begun c.put_frame-enabled.ensures) c.put_head-headed.ensures)
 
 pub put-sent-requires : goal.put-sent-requires
 put-sent-requires c =
-    let sent-bytes : let a = c.args in encode (part_records (wanted_at a.start a.wanted.now) a.part.from (a.part.to - a.part.from)) ≡ part_bytes a.start a.wanted.now a.part.from a.part.to = let a = c.args in part_bytes_lem a.start a.wanted.now a.part.from a.part.to (omega arith) (omega arith) (omega arith) in
-    let begun : let a = c.args in Whole a.at (part_bytes a.start a.wanted.now a.part.from a.part.to) a.buffer.now = left_start _ _ _ (rw sent-bytes at c.requires.from_in_bounds) in
     let a = c.args in
+    let begun = part_begun a.start a.wanted.now a.part.from a.part.to a.at a.buffer.now (omega arith) (omega arith) (omega arith) c.requires.from_in_bounds in
     left_room (take (a.part.to - a.start - (a.part.from - a.start)) (drop (a.part.from - a.start) a.wanted.now)) _
     (left_turn (0x02 ∷ address_bytes _) _ (left_turn (frame_head _) _ (left_turn _ _ begun c.put_frame-enabled.ensures) c.put_head-headed.ensures)
     (rw c.address_bytes-place.ensures at c.put-addressed.ensures))
 
 pub put_wait-requires : goal.put_wait-requires
 put_wait-requires c =
-    let sent-bytes : let a = c.args in encode (part_records (wanted_at a.start a.wanted.now) a.part.from (a.part.to - a.part.from)) ≡ part_bytes a.start a.wanted.now a.part.from a.part.to = let a = c.args in part_bytes_lem a.start a.wanted.now a.part.from a.part.to (omega arith) (omega arith) (omega arith) in
-    let begun : let a = c.args in Whole a.at (part_bytes a.start a.wanted.now a.part.from a.part.to) a.buffer.now = left_start _ _ _ (rw sent-bytes at c.requires.from_in_bounds) in
+    let a = c.args in
+    let begun = part_begun a.start a.wanted.now a.part.from a.part.to a.at a.buffer.now (omega arith) (omega arith) (omega arith) c.requires.from_in_bounds in
     left_fits (left_turn _ _ (left_turn (0x02 ∷ address_bytes _) _ (left_turn (frame_head _) _ (left_turn _ _ begun c.put_frame-enabled.ensures) c.put_head-headed.ensures)
     (rw c.address_bytes-place.ensures at c.put-addressed.ensures)) c.put-sent.ensures)
 
 pub returns : goal.returns
 returns c =
-    let sent-bytes : let a = c.args in encode (part_records (wanted_at a.start a.wanted.now) a.part.from (a.part.to - a.part.from)) ≡ part_bytes a.start a.wanted.now a.part.from a.part.to = let a = c.args in part_bytes_lem a.start a.wanted.now a.part.from a.part.to (omega arith) (omega arith) (omega arith) in
-    let begun : let a = c.args in Whole a.at (part_bytes a.start a.wanted.now a.part.from a.part.to) a.buffer.now = left_start _ _ _ (rw sent-bytes at c.requires.from_in_bounds) in
-    rw sent-bytes
+    let a = c.args in
+    let begun = part_begun a.start a.wanted.now a.part.from a.part.to a.at a.buffer.now (omega arith) (omega arith) (omega arith) c.requires.from_in_bounds in
+    rw (part_bytes_lem a.start a.wanted.now a.part.from a.part.to (omega arith) (omega arith) (omega arith))
     (left_last (left_turn _ _ (left_turn (0x02 ∷ address_bytes _) _ (left_turn (frame_head _) _ (left_turn _ _ begun c.put_frame-enabled.ensures) c.put_head-headed.ensures)
     (rw c.address_bytes-place.ensures at c.put-addressed.ensures)) c.put-sent.ensures) c.put_wait.ensures)

@@ -17,27 +17,26 @@ returns-then-number-ne0 c =
 
 pub step_one_needed-needed-requires : goal.step_one_needed-needed-requires
 step_one_needed-needed-requires c =
-    let passed : let a = c.args in first_of (region_refusals a.s a.array.now a.start a.wanted.now) ≡ 0 = sym c.region_refusal-number.ensures ∙ c.if-number-ne0.false in
-    let inside : let a = c.args in Inside a.array.now a.start a.wanted.now = let a = c.args in accepted_inside a.s _ _ _ (region_accepted _ _ _ _ passed) in
-    inside
+    let passed = sym c.region_refusal-number.ensures ∙ c.if-number-ne0.false in
+    accepted_inside c.args.s _ _ _ (region_accepted _ _ _ _ passed)
 
 pub returns-then-needed-s : goal.returns-then-needed-s
 returns-then-needed-s c =
-    let passed : let a = c.args in first_of (region_refusals a.s a.array.now a.start a.wanted.now) ≡ 0 = sym c.region_refusal-number.ensures ∙ c.if-number-ne0.false in
+    let passed = sym c.region_refusal-number.ensures ∙ c.if-number-ne0.false in
     rw c.refuse_plan-then-needed-s.ensures
     (plan_refused _ _ _ _ _ _ status_locked (omega arith) (refusal_locked _ _ _ _ _ _ passed (rw c.step_one_needed-needed.ensures at c.if-needed-s.true)))
 
 pub measure_plan-m-requires : goal.measure_plan-m-requires
 measure_plan-m-requires c =
-    let passed : let a = c.args in first_of (region_refusals a.s a.array.now a.start a.wanted.now) ≡ 0 = sym c.region_refusal-number.ensures ∙ c.if-number-ne0.false in
-    let inside : let a = c.args in Inside a.array.now a.start a.wanted.now = let a = c.args in accepted_inside a.s _ _ _ (region_accepted _ _ _ _ passed) in record {
-      inside = inside;
+    let passed = sym c.region_refusal-number.ensures ∙ c.if-number-ne0.false in
+    record {
+      inside = accepted_inside c.args.s _ _ _ (region_accepted _ _ _ _ passed);
       needed_value = c.step_one_needed-needed.ensures;
     }
 
 pub returns-then-buffer-m : goal.returns-then-buffer-m
 returns-then-buffer-m c =
-    let passed : let a = c.args in first_of (region_refusals a.s a.array.now a.start a.wanted.now) ≡ 0 = sym c.region_refusal-number.ensures ∙ c.if-number-ne0.false in
+    let passed = sym c.region_refusal-number.ensures ∙ c.if-number-ne0.false in
     let a = c.args in
     let long = measured_length (plan_records a.s a.array.now a.start a.wanted.now) c.measure_plan-m.result c.measure_plan-m.ensures in
     rw c.refuse_plan-then-buffer-m.ensures
@@ -45,11 +44,10 @@ returns-then-buffer-m c =
 
 pub put_plan-requires : goal.put_plan-requires
 put_plan-requires c =
-    let passed : let a = c.args in first_of (region_refusals a.s a.array.now a.start a.wanted.now) ≡ 0 = sym c.region_refusal-number.ensures ∙ c.if-number-ne0.false in
-    let inside : let a = c.args in Inside a.array.now a.start a.wanted.now = let a = c.args in accepted_inside a.s _ _ _ (region_accepted _ _ _ _ passed) in
+    let passed = sym c.region_refusal-number.ensures ∙ c.if-number-ne0.false in
     let a = c.args in
     let long = measured_length (plan_records a.s a.array.now a.start a.wanted.now) c.measure_plan-m.result c.measure_plan-m.ensures in record {
-      inside = inside;
+      inside = accepted_inside c.args.s _ _ _ (region_accepted _ _ _ _ passed);
       bp_bound = (sound_of a.s (region_accepted a.s a.array.now a.start a.wanted.now passed).sound).bp_le_7;
       needed_value = c.step_one_needed-needed.ensures;
       wanted_in_bounds = omega arith;
@@ -57,7 +55,7 @@ put_plan-requires c =
 
 pub returns : goal.returns
 returns c =
-    let passed : let a = c.args in first_of (region_refusals a.s a.array.now a.start a.wanted.now) ≡ 0 = sym c.region_refusal-number.ensures ∙ c.if-number-ne0.false in
+    let passed = sym c.region_refusal-number.ensures ∙ c.if-number-ne0.false in
     let a = c.args in
     let long = measured_length (plan_records a.s a.array.now a.start a.wanted.now) c.measure_plan-m.result c.measure_plan-m.ensures in
     plan_accepted _ _ _ _ _ _ (of_accepted _ _ _ _ _ _ record {

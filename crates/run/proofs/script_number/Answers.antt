@@ -17,32 +17,32 @@ returns-then-not-is_sound c = yes _ (ap not (rw c.is_sound.ensures at c.if-not-i
 
 pub returns-then-array-chip_of : goal.returns-then-array-chip_of
 returns-then-array-chip_of c =
-    let sound : not (is_sound c.args.s) ≡ false = ap not (rw c.is_sound.ensures at c.if-not-is_sound.false) in
+    let sound = ap not (rw c.is_sound.ensures at c.if-not-is_sound.false) in
     no _ sound (yes _ (ap not (rw c.chip_of.ensures at (ne_eqb _ _ c.if-array-chip_of.true))) refl)
     ∙ sym (number_surveyed _ _ _ _)
 
 pub returns-then-survey-ne0 : goal.returns-then-survey-ne0
 returns-then-survey-ne0 c =
-    let sound : not (is_sound c.args.s) ≡ false = ap not (rw c.is_sound.ensures at c.if-not-is_sound.false) in
-    let sized : let a = c.args in not (eqb (length a.array.now) (data_of a.s).size) ≡ false = ap not (eq-eqb _ _ (rw c.chip_of.ensures at c.if-array-chip_of.false)) in
+    let sound = ap not (rw c.is_sound.ensures at c.if-not-is_sound.false) in
+    let sized = ap not (eq-eqb _ _ (rw c.chip_of.ensures at c.if-array-chip_of.false)) in
     ap (λ (v : Surveyed). v.number) c.requires
     ∙ no _ sound (no _ sized (yes _ (ap not (ne_eqb _ 0 (rw c.requires at c.if-survey-ne0.true))) refl))
     ∙ sym (number_surveyed _ _ _ _)
 
 pub returns-then-output-survey : goal.returns-then-output-survey
 returns-then-output-survey c =
-    let sound : not (is_sound c.args.s) ≡ false = ap not (rw c.is_sound.ensures at c.if-not-is_sound.false) in
-    let sized : let a = c.args in not (eqb (length a.array.now) (data_of a.s).size) ≡ false = ap not (eq-eqb _ _ (rw c.chip_of.ensures at c.if-array-chip_of.false)) in
-    let surveyed : let a = c.args in not (eqb (survey_of a.script.now).number 0) ≡ false = ap not (eq-eqb _ 0 (rw c.requires at c.if-survey-ne0.false)) in
+    let sound = ap not (rw c.is_sound.ensures at c.if-not-is_sound.false) in
+    let sized = ap not (eq-eqb _ _ (rw c.chip_of.ensures at c.if-array-chip_of.false)) in
+    let surveyed = ap not (eq-eqb _ 0 (rw c.requires at c.if-survey-ne0.false)) in
     no _ sound
     (no _ sized (no _ surveyed (yes _ (rw c.requires at c.if-output-survey.true) refl)))
     ∙ sym (number_surveyed _ _ _ _)
 
 pub returns : goal.returns
 returns c =
-    let sound : not (is_sound c.args.s) ≡ false = ap not (rw c.is_sound.ensures at c.if-not-is_sound.false) in
-    let sized : let a = c.args in not (eqb (length a.array.now) (data_of a.s).size) ≡ false = ap not (eq-eqb _ _ (rw c.chip_of.ensures at c.if-array-chip_of.false)) in
-    let surveyed : let a = c.args in not (eqb (survey_of a.script.now).number 0) ≡ false = ap not (eq-eqb _ 0 (rw c.requires at c.if-survey-ne0.false)) in
+    let sound = ap not (rw c.is_sound.ensures at c.if-not-is_sound.false) in
+    let sized = ap not (eq-eqb _ _ (rw c.chip_of.ensures at c.if-array-chip_of.false)) in
+    let surveyed = ap not (eq-eqb _ 0 (rw c.requires at c.if-survey-ne0.false)) in
     no _ sound
     (no _ sized (no _ surveyed (no _ (rw c.requires at c.if-output-survey.false) refl)))
     ∙ sym (number_surveyed _ _ _ _)

@@ -34,57 +34,48 @@ loop-start-init c =
 
 pub part_at-input-requires : goal.part_at-input-requires
 part_at-input-requires c =
-    let told : Told (c.args.script.now) c.loop-start.at c.front_at-found.result = front_told (c.args.script.now) c.loop-start.at c.front_at-found.result c.front_at-found.ensures in
-    let framed : FrameTold (c.args.script.now) c.loop-start.at c.in-Frame.start c.in-Frame.length c.in-Frame.next = rw c.in-Frame.is at told in
+    let framed = rw c.in-Frame.is at (front_told c.args.script.now c.loop-start.at _ c.front_at-found.ensures) in
     let t = framed in omega (arith, t.start_is, t.long, t.stands.next_is, t.stands.inside)
 
 pub overflow_add-end : goal.overflow_add-end
 overflow_add-end c =
-    let told : Told (c.args.script.now) c.loop-start.at c.front_at-found.result = front_told (c.args.script.now) c.loop-start.at c.front_at-found.result c.front_at-found.ensures in
-    let framed : FrameTold (c.args.script.now) c.loop-start.at c.in-Frame.start c.in-Frame.length c.in-Frame.next = rw c.in-Frame.is at told in
+    let framed = rw c.in-Frame.is at (front_told c.args.script.now c.loop-start.at _ c.front_at-found.ensures) in
     let h = frame_room c.loop-start.invariant.1 framed in search rules
 
 pub slice_bounds-run_accepted-end : goal.slice_bounds-run_accepted-end
 slice_bounds-run_accepted-end c =
-    let told : Told (c.args.script.now) c.loop-start.at c.front_at-found.result = front_told (c.args.script.now) c.loop-start.at c.front_at-found.result c.front_at-found.ensures in
-    let framed : FrameTold (c.args.script.now) c.loop-start.at c.in-Frame.start c.in-Frame.length c.in-Frame.next = rw c.in-Frame.is at told in
-    frame_room c.loop-start.invariant.1 (framed)
+    let framed = rw c.in-Frame.is at (front_told c.args.script.now c.loop-start.at _ c.front_at-found.ensures) in
+    frame_room c.loop-start.invariant.1 framed
 
 pub slice_bounds-run_accepted-end-in-Frame : goal.slice_bounds-run_accepted-end-in-Frame
 slice_bounds-run_accepted-end-in-Frame c =
-    let told : Told (c.args.script.now) c.loop-start.at c.front_at-found.result = front_told (c.args.script.now) c.loop-start.at c.front_at-found.result c.front_at-found.ensures in
-    let framed : FrameTold (c.args.script.now) c.loop-start.at c.in-Frame.start c.in-Frame.length c.in-Frame.next = rw c.in-Frame.is at told in
-    frame_driven_room c.loop-start.invariant.1 (framed)
+    let framed = rw c.in-Frame.is at (front_told c.args.script.now c.loop-start.at _ c.front_at-found.ensures) in
+    frame_driven_room c.loop-start.invariant.1 framed
 
 pub run_accepted-state-requires : goal.run_accepted-state-requires
 run_accepted-state-requires c =
-    let told : Told (c.args.script.now) c.loop-start.at c.front_at-found.result = front_told (c.args.script.now) c.loop-start.at c.front_at-found.result c.front_at-found.ensures in
-    let framed : FrameTold (c.args.script.now) c.loop-start.at c.in-Frame.start c.in-Frame.length c.in-Frame.next = rw c.in-Frame.is at told in
+    let framed = rw c.in-Frame.is at (front_told c.args.script.now c.loop-start.at _ c.front_at-found.ensures) in
     walk_accepted c.loop-start.invariant.1 framed c.part_at-input.ensures
 
 pub loop-start-smaller-in-Frame : goal.loop-start-smaller-in-Frame
 loop-start-smaller-in-Frame c =
-    let told : Told (c.args.script.now) c.loop-start.at c.front_at-found.result = front_told (c.args.script.now) c.loop-start.at c.front_at-found.result c.front_at-found.ensures in
-    let framed : FrameTold (c.args.script.now) c.loop-start.at c.in-Frame.start c.in-Frame.length c.in-Frame.next = rw c.in-Frame.is at told in
+    let framed = rw c.in-Frame.is at (front_told c.args.script.now c.loop-start.at _ c.front_at-found.ensures) in
     let s = framed.stands in omega (arith, s.next_is, s.least, s.inside)
 
 pub loop-start-preserved-in-Frame : goal.loop-start-preserved-in-Frame
 loop-start-preserved-in-Frame c =
-    let told : Told (c.args.script.now) c.loop-start.at c.front_at-found.result = front_told (c.args.script.now) c.loop-start.at c.front_at-found.result c.front_at-found.ensures in
-    let framed : FrameTold (c.args.script.now) c.loop-start.at c.in-Frame.start c.in-Frame.length c.in-Frame.next = rw c.in-Frame.is at told in
+    let framed = rw c.in-Frame.is at (front_told c.args.script.now c.loop-start.at _ c.front_at-found.ensures) in
     let told = c.loop-start.invariant in
     (told.0, walk_frame told.1 framed c.part_at-input.ensures c.run_accepted-state.ensures)
 
 pub loop-start-smaller : goal.loop-start-smaller
 loop-start-smaller c =
-    let told : Told (c.args.script.now) c.loop-start.at c.front_at-found.result = front_told (c.args.script.now) c.loop-start.at c.front_at-found.result c.front_at-found.ensures in
-    let waited : Stands (c.args.script.now) c.loop-start.at (wait c.in-Wait.microseconds) c.in-Wait.next = rw c.in-Wait.is at told in
+    let waited = rw c.in-Wait.is at (front_told c.args.script.now c.loop-start.at _ c.front_at-found.ensures) in
     let s = waited in omega (arith, s.next_is, s.inside)
 
 pub loop-start-preserved : goal.loop-start-preserved
 loop-start-preserved c =
-    let told : Told (c.args.script.now) c.loop-start.at c.front_at-found.result = front_told (c.args.script.now) c.loop-start.at c.front_at-found.result c.front_at-found.ensures in
-    let waited : Stands (c.args.script.now) c.loop-start.at (wait c.in-Wait.microseconds) c.in-Wait.next = rw c.in-Wait.is at told in
+    let waited = rw c.in-Wait.is at (front_told c.args.script.now c.loop-start.at _ c.front_at-found.ensures) in
     let told = c.loop-start.invariant in (told.0, walk_wait told.1 waited c.time_passed-state.ensures)
 
 pub shape_of-array-in_default : goal.shape_of-array-in_default
@@ -98,7 +89,7 @@ shape_of-driven-in_default c = let told = c.loop-start.invariant in told.1.long.
 
 pub returns-in_default : goal.returns-in_default
 returns-in_default c =
-    let told : Told (c.args.script.now) c.loop-start.at c.front_at-found.result = front_told (c.args.script.now) c.loop-start.at c.front_at-found.result c.front_at-found.ensures in
+    let told = front_told c.args.script.now c.loop-start.at _ c.front_at-found.ensures in
     let t = ended c.args.script.now c.loop-start.at (λ number next t. good_not_refused c.loop-start.invariant.1.decoded t.1) c.front_at-found.result c.in_default.not-Frame c.in_default.not-Wait told in
     let e = walk_end c.loop-start.invariant.1 t in
     record { device_is = e.0; line_is = e.1 }

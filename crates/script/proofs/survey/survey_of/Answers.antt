@@ -15,43 +15,38 @@ loop-length-init c = count_start _ c.if-script-gt-LONGEST_SCRIPT.false
 
 pub overflow_add-output : goal.overflow_add-output
 overflow_add-output c =
-    let told : Told (c.args.script.now) c.loop-length.at c.front_at-found.result = front_told (c.args.script.now) c.loop-length.at c.front_at-found.result c.front_at-found.ensures in
-    let framed : FrameTold (c.args.script.now) c.loop-length.at c.in-Frame.start c.in-Frame.length c.in-Frame.next = rw c.in-Frame.is at told in
+    let framed = rw c.in-Frame.is at (front_told c.args.script.now c.loop-length.at _ c.front_at-found.ensures) in
     let t = framed in omega (arith, t.long, t.stands.next_is, t.stands.inside)
 
 pub loop-length-smaller-in-Frame : goal.loop-length-smaller-in-Frame
 loop-length-smaller-in-Frame c =
-    let told : Told (c.args.script.now) c.loop-length.at c.front_at-found.result = front_told (c.args.script.now) c.loop-length.at c.front_at-found.result c.front_at-found.ensures in
-    let framed : FrameTold (c.args.script.now) c.loop-length.at c.in-Frame.start c.in-Frame.length c.in-Frame.next = rw c.in-Frame.is at told in
+    let framed = rw c.in-Frame.is at (front_told c.args.script.now c.loop-length.at _ c.front_at-found.ensures) in
     let s = framed.stands in omega (arith, s.next_is, s.least, s.inside)
 
 pub loop-length-preserved-in-Frame : goal.loop-length-preserved-in-Frame
 loop-length-preserved-in-Frame c =
-    let told : Told (c.args.script.now) c.loop-length.at c.front_at-found.result = front_told (c.args.script.now) c.loop-length.at c.front_at-found.result c.front_at-found.ensures in
-    let framed : FrameTold (c.args.script.now) c.loop-length.at c.in-Frame.start c.in-Frame.length c.in-Frame.next = rw c.in-Frame.is at told in
+    let framed = rw c.in-Frame.is at (front_told c.args.script.now c.loop-length.at _ c.front_at-found.ensures) in
     count_frame framed c.loop-length.invariant
 
 pub loop-length-smaller : goal.loop-length-smaller
 loop-length-smaller c =
-    let told : Told (c.args.script.now) c.loop-length.at c.front_at-found.result = front_told (c.args.script.now) c.loop-length.at c.front_at-found.result c.front_at-found.ensures in
-    let waited : Stands (c.args.script.now) c.loop-length.at (wait c.in-Wait.waited) c.in-Wait.next = rw c.in-Wait.is at told in
+    let waited = rw c.in-Wait.is at (front_told c.args.script.now c.loop-length.at _ c.front_at-found.ensures) in
     let s = waited in omega (arith, s.next_is, s.inside)
 
 pub loop-length-preserved : goal.loop-length-preserved
 loop-length-preserved c =
-    let told : Told (c.args.script.now) c.loop-length.at c.front_at-found.result = front_told (c.args.script.now) c.loop-length.at c.front_at-found.result c.front_at-found.ensures in
-    let waited : Stands (c.args.script.now) c.loop-length.at (wait c.in-Wait.waited) c.in-Wait.next = rw c.in-Wait.is at told in
+    let waited = rw c.in-Wait.is at (front_told c.args.script.now c.loop-length.at _ c.front_at-found.ensures) in
     count_wait (omega arith) waited c.loop-length.invariant
 
 pub returns-in-End : goal.returns-in-End
 returns-in-End c =
-    let told : Told (c.args.script.now) c.loop-length.at c.front_at-found.result = front_told (c.args.script.now) c.loop-length.at c.front_at-found.result c.front_at-found.ensures in
+    let told = front_told c.args.script.now c.loop-length.at _ c.front_at-found.ensures in
     let t = rw c.in-End.is at told in
     c.counted_survey.ensures ∙ count_end t.1 c.loop-length.invariant
 
 pub returns-in-Refused : goal.returns-in-Refused
 returns-in-Refused c =
-    let told : Told (c.args.script.now) c.loop-length.at c.front_at-found.result = front_told (c.args.script.now) c.loop-length.at c.front_at-found.result c.front_at-found.ensures in
+    let told = front_told c.args.script.now c.loop-length.at _ c.front_at-found.ensures in
     let k = c.loop-length.invariant in
     let t = rw c.in-Refused.is at told in
     c.refused_survey-in-Refused.ensures ∙ rw t.0 (count_refused t.1 k)

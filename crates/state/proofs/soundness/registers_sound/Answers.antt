@@ -43,14 +43,14 @@ returns-then-s-chip-3 c = let s = c.args.s in fails_at 10 (register_clauses s) (
 pub returns : goal.returns
 returns c =
     let state_at : State = c.args.s in
-    let left-short : state_at.left ≤ (data_of state_at).chip_time = elim c.if-s-gt0.branch [ then-s-gt0+else-chip-s+else-s w ↦ rw c.chip_of-chip.ensures at w.if-chip-s.false | else-s-gt0 w ↦ omega arith ] in
+    let left_short : state_at.left ≤ (data_of state_at).chip_time = elim c.if-s-gt0.branch [ then-s-gt0+else-chip-s+else-s w ↦ rw c.chip_of-chip.ensures at w.if-chip-s.false | else-s-gt0 w ↦ omega arith ] in
     let while_busy : 0 < state_at.left → Busy state_at = λ h. elim c.if-s-gt0.branch [ then-s-gt0+else-chip-s+else-s w ↦ busy_holds state_at w.if-s.false | else-s-gt0 w ↦ absurd (omega (arith, h, w.if-s-gt0.false)) ] in
     let armed_awake : state_at.armed ≡ true → state_at.power_down ≡ false = λ a. elim c.if-s-2.branch [ then-s-2+else-s-3+else-not-chip-s w ↦ w.if-s-3.false | else-s-2 w ↦ absurd (true≢false (sym a ∙ w.if-s-2.false)) ] in
     let armed_enabled : (data_of state_at).ewsr ≡ false → state_at.armed ≡ true → state_at.wel ≡ true = λ e a. let s = state_at in elim c.if-s-2.branch [ then-s-2+else-s-3+else-not-chip-s w ↦ or_imp (data_of s).ewsr s.wel (rw c.chip_of-chip.ensures at w.if-not-chip-s.false) e | else-s-2 w ↦ absurd (true≢false (sym a ∙ w.if-s-2.false)) ] in
     let s = state_at in
     let chip = c.chip_of-chip.ensures in
     let known = sym c.is_known.ensures ∙ c.if-not-is_known.false in
-    sym (of_registers s known c.if-s-gt7.false left-short while_busy armed_awake armed_enabled
+    sym (of_registers s known c.if-s-gt7.false left_short while_busy armed_awake armed_enabled
     (implies_holds s.tb (data_of s).top_bottom (rw chip at c.if-s-chip.false))
     (implies_holds s.power_down (data_of s).sleeps (rw chip at c.if-s-chip-2.false))
     (implies_holds s.aai (data_of s).aai (rw chip at c.if-s-chip-3.false)))
