@@ -1,10 +1,14 @@
 -- `salvage::pieces::put_pieces` meets its contract: what is left of the records and of the list goes behind what is laid.
 use mathlib.Core.Path.{◌≡◌, sym, ◌∙◌}
-use Prim.Native.Nat.{◌+◌, ◌-◌}
+use Prim.Native.Nat.{ℕ, ◌+◌, ◌-◌}
 use native.Mathlib.Omega.{arith}
 use Rattle.names.proofs.Laws.Front.{none_exactly}
-use Rattle.salvage.proofs.Laws.Walk.{KeptAt, kept_at, laying_start, entry_room, laying_stretch, record_room, laying_kept, laying_end}
+use Rattle.salvage.proofs.Laws.Walk.{kept_at, laying_start, entry_room, laying_stretch, record_room, laying_kept, laying_end}
 use Rattle.salvage.proofs.pieces.put_pieces.Goals as goal
+
+-- a record is taken from its place to its end
+taken : (at n : ℕ) → at + n - at ≡ n
+taken at n = omega arith
 
 pub loop-at-init : goal.loop-at-init
 loop-at-init c = laying_start _ _ _ c.requires.bytes_len_bound.1 c.requires.bytes_in_bounds
@@ -33,35 +37,24 @@ loop-at-preserved-then-record-eq0 c =
     c.loop-at.invariant _ _ c.put_stretch-listed.ensures
 
 pub overflow_add-end : goal.overflow_add-end
-overflow_add-end c =
-    let kept_here : KeptAt c.args.bytes.now c.loop-at.at c.record_at-record.result = kept_at _ _ _ c.record_at-record.ensures c.if-record-eq0.false in
-    omega (arith, kept_here.inside)
+overflow_add-end c = omega (arith, (kept_at c.args.bytes.now c.loop-at.at _ c.record_at-record.ensures c.if-record-eq0.false).inside)
 
 pub slice_bounds-put-end : goal.slice_bounds-put-end
-slice_bounds-put-end c =
-    let kept_here : KeptAt c.args.bytes.now c.loop-at.at c.record_at-record.result = kept_at _ _ _ c.record_at-record.ensures c.if-record-eq0.false in
-    omega (arith, kept_here.inside)
+slice_bounds-put-end c = omega (arith, (kept_at c.args.bytes.now c.loop-at.at _ c.record_at-record.ensures c.if-record-eq0.false).inside)
 
 pub put-size-requires : goal.put-size-requires
 put-size-requires c =
-    let kept_here : KeptAt c.args.bytes.now c.loop-at.at c.record_at-record.result = kept_at _ _ _ c.record_at-record.ensures c.if-record-eq0.false in
-    let l = c.loop-at in
-    let n = c.record_at-record.result in
-    let same : l.at + n - l.at ≡ n = omega arith in
-    rw same (record_room _ _ _ _ _ _ _ _ n kept_here l.invariant)
+    rw (taken c.loop-at.at c.record_at-record.result)
+    (record_room _ _ _ _ _ _ _ _ _ (kept_at _ _ _ c.record_at-record.ensures c.if-record-eq0.false) c.loop-at.invariant)
 
 pub loop-at-smaller : goal.loop-at-smaller
 loop-at-smaller c =
-    let kept_here : KeptAt c.args.bytes.now c.loop-at.at c.record_at-record.result = kept_at _ _ _ c.record_at-record.ensures c.if-record-eq0.false in
-    let r = kept_here in omega (arith, r.some, r.inside)
+    let r = kept_at c.args.bytes.now c.loop-at.at _ c.record_at-record.ensures c.if-record-eq0.false in omega (arith, r.some, r.inside)
 
 pub loop-at-preserved : goal.loop-at-preserved
 loop-at-preserved c =
-    let kept_here : KeptAt c.args.bytes.now c.loop-at.at c.record_at-record.result = kept_at _ _ _ c.record_at-record.ensures c.if-record-eq0.false in
-    let l = c.loop-at in
-    let n = c.record_at-record.result in
-    let same : l.at + n - l.at ≡ n = omega arith in
-    laying_kept _ _ _ _ _ _ _ _ n kept_here l.invariant _ _ (rw same at c.put-size.ensures)
+    laying_kept _ _ _ _ _ _ _ _ _ (kept_at _ _ _ c.record_at-record.ensures c.if-record-eq0.false)
+    c.loop-at.invariant _ _ (rw (taken c.loop-at.at c.record_at-record.result) at c.put-size.ensures)
 
 pub shape_of-kept : goal.shape_of-kept
 shape_of-kept c = c.loop-at.invariant.records.long
