@@ -1,11 +1,9 @@
 -- `plan::plan_update` meets its contract: each refusal is the first that holds, and with none of them the script is measured and written.
-use mathlib.Core.Path.{◌≡◌, sym, ◌∙◌}
+use mathlib.Core.Path.{sym, ◌∙◌}
 use native.Mathlib.Omega.{arith}
-use Rattle.common.specs.Refusals.{status_locked, buffer_too_short, first_of}
+use Rattle.common.specs.Refusals.{status_locked, buffer_too_short}
 use Rattle.state.proofs.Laws.Soundness.{sound_of}
-use Rattle.region.specs.Region.{Inside}
 use Rattle.plan.specs.Plan.{plan_records}
-use Rattle.plan.specs.Refusals.{region_refusals}
 use Rattle.plan.proofs.Laws.Refusals.{region_accepted, accepted_inside, refusal_region, refusal_locked, refusal_short, of_accepted}
 use Rattle.plan.proofs.Laws.Update.{measured_length, plan_refused, plan_accepted}
 use Rattle.plan.proofs.plan_update.Goals as goal

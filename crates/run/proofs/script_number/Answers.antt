@@ -1,14 +1,9 @@
 -- `run::script_number` meets its contract: each test is its refusal's condition, in the order of the list; behind 1 and 2 the survey tells them.
-use mathlib.Core.Path.{◌≡◌, refl, sym, ap, ◌∙◌}
-use mathlib.Core.Bool.{false, not}
-use lib.Dec.{eqb}
-use lib.ListN.{length}
+use mathlib.Core.Path.{refl, sym, ap, ◌∙◌}
+use mathlib.Core.Bool.{not}
 use borrow.Author.Tests.{eq-eqb, ne_eqb}
 use Rattle.common.proofs.Laws.Choice.{yes, no}
-use Rattle.state.specs.State.{data_of}
-use Rattle.state.specs.Soundness.{is_sound}
 use Rattle.script.specs.declared.survey.Surveyed.{Surveyed}
-use Rattle.script.specs.Survey.{survey_of}
 use Rattle.run.proofs.Laws.Accepted.{number_surveyed}
 use Rattle.run.proofs.script_number.Goals as goal
 

@@ -2,7 +2,6 @@
 use mathlib.Core.Path.{sym, ap, ◌∙◌}
 use native.Mathlib.Omega.{arith}
 use Rattle.names.specs.Search.{same_bytes}
-use Rattle.names.proofs.Laws.Walk.{Step}
 use Rattle.names.proofs.Laws.Sought.{sought_start, sought_step, sought_found, sought_turn, sought_end, search_found}
 use Rattle.names.proofs.search.find.Goals as goal
 

@@ -6,9 +6,8 @@ use Prim.Native.Nat.{ℕ}
 use native.Mathlib.Omega.{arith}
 use Rattle.script.specs.declared.reader.Found.{Found}
 use Rattle.script.specs.declared.reader.Found.TheVariants.{Frame, Wait, End, Refused}
-use Rattle.script.specs.Record.{wait}
 use Rattle.common.proofs.Laws.Bits.{bytes_within}
-use Rattle.script.proofs.Laws.Answers.{good_not_refused, Stands, FrameTold, EndTold, Told, front_told}
+use Rattle.script.proofs.Laws.Answers.{good_not_refused, EndTold, Told, front_told}
 use Rattle.frame.specs.Device.{device}
 use Rattle.frame.specs.Line.{on_line}
 use Rattle.run.proofs.Laws.Walk.{walk_start, frame_room, frame_driven_room, walk_accepted, walk_frame, walk_wait, walk_end}

@@ -2,8 +2,7 @@
 -- The measure is what is left of the script. Assumes nothing.
 use mathlib.Core.Path.{sym, ◌∙◌}
 use native.Mathlib.Omega.{arith}
-use Rattle.script.specs.Record.{wait}
-use Rattle.script.proofs.Laws.Answers.{Stands, FrameTold, Told, front_told}
+use Rattle.script.proofs.Laws.Answers.{front_told}
 use Rattle.script.proofs.Laws.Survey.{survey_long, count_start, count_frame, count_wait, count_end, count_refused}
 use Rattle.script.proofs.survey.survey_of.Goals as goal
 

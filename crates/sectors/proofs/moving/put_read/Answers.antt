@@ -1,5 +1,5 @@
 -- `sectors::moving::put_read` meets its contract: the records of the names passed are laid, and those of the names left go behind them.
-use mathlib.Core.Path.{◌≡◌, sym, ◌∙◌}
+use mathlib.Core.Path.{◌≡◌}
 use native.Mathlib.Omega.{arith}
 use lib.ListN.{length}
 use borrow.Author.Rules.{rules}
