@@ -94,22 +94,22 @@ pub returns-then-search-name : goal.returns-then-search-name
 returns-then-search-name c =
     rw c.refuse_plan-then-search-name.ensures
     (name_marks_refused _ _ _ _ _ _ _ (omega arith)
-    (full _ _ _ _ _ c.name_refusal-number.ensures c.if-number-ne0.false _ c.find-search.ensures c.if-search.false c.if-search-name.true))
+    (full _ _ _ _ _ c.name_refusal-number.ensures c.if-number-ne0.false _ c.find-search.ensures c.if-search.false (omega arith)))
 
 pub append-requires : goal.append-requires
 append-requires c = (
   c.blank-wanted.ensures,
   ap length (sector_sliced _ _) ∙ sector_long _ _ (inside _ _ _ _ _ c.name_refusal-number.ensures c.if-number-ne0.false),
   name_short _ _ _ _ (clear _ _ _ _ _ c.name_refusal-number.ensures c.if-number-ne0.false),
-  roomy _ _ _ _ _ c.name_refusal-number.ensures c.if-number-ne0.false _ c.find-search.ensures c.if-search.false c.if-search-name.false,
+  roomy _ _ _ _ _ c.name_refusal-number.ensures c.if-number-ne0.false _ c.find-search.ensures c.if-search.false (omega arith),
 )
 
 pub slice_bounds-plan_update-end : goal.slice_bounds-plan_update-end
 slice_bounds-plan_update-end c =
-    sym (laid_long _ _ _ _ _ c.name_refusal-number.ensures c.if-number-ne0.false _ c.find-search.ensures c.if-search.false c.if-search-name.false _ c.append.ensures)
+    sym (laid_long _ _ _ _ _ c.name_refusal-number.ensures c.if-number-ne0.false _ c.find-search.ensures c.if-search.false (omega arith) _ c.append.ensures)
 
 pub returns : goal.returns
 returns c =
     name_marks_planned _ _ _ _ _ _ _ _
-    (accepted _ _ _ _ _ c.name_refusal-number.ensures c.if-number-ne0.false _ c.find-search.ensures c.if-search.false c.if-search-name.false)
+    (accepted _ _ _ _ _ c.name_refusal-number.ensures c.if-number-ne0.false _ c.find-search.ensures c.if-search.false (omega arith))
     (rw (laid _ _ _ _ _ c.name_refusal-number.ensures c.if-number-ne0.false _ c.find-search.ensures c.if-search.false _ c.append.ensures) at c.plan_update-2.ensures)
