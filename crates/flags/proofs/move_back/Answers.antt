@@ -4,16 +4,10 @@ use mathlib.Core.Bool.{false}
 use mathlib.Core.List.{[]}
 use native.Mathlib.Omega.{arith}
 use lib.ListN.{length}
-use Rattle.common.specs.Refusals.{first_of}
-use Rattle.names.specs.Records.{names_of, padded}
+use Rattle.names.specs.Records.{padded}
 use Rattle.names.proofs.Laws.Padded.{padded_long}
-use Rattle.namelist.specs.Listed.{listed, names_in}
-use Rattle.sectors.specs.Images.{sector_part}
-use Rattle.sectors.specs.Moves.{wanted_back, unlisted}
-use Rattle.namechecks.specs.Refusals.{list_refusals, back_refusal}
-use Rattle.namechecks.specs.Opened.{ListOpened}
 use Rattle.sectors.proofs.Laws.Images.{sector_sliced, sector_long, laid_over}
-use Rattle.sectors.proofs.Laws.Back.{blank_bytes, back_book, back_book_long, back_is}
+use Rattle.sectors.proofs.Laws.Back.{blank_bytes, back_book_long, back_is}
 use Rattle.namechecks.proofs.Laws.Opened.{back_refusal_of, list_opened, names_fit}
 use Rattle.flags.proofs.Laws.Answers.{returns_refused, returns_planned}
 use Rattle.flags.proofs.move_back.Goals as goal
@@ -24,47 +18,34 @@ returns-then-number-ne0 c =
     (returns_refused _ _ _ _ _ _ _ _ (omega arith) (back_refusal_of _ _ _ _ _ ∙ sym c.list_refusal-number.ensures))
 
 pub overflow_add-end : goal.overflow_add-end
-overflow_add-end c =
-    let clear : let a = c.args in first_of (list_refusals a.s a.array.now a.book a.sector a.list.now false) ≡ 0 = sym c.list_refusal-number.ensures ∙ c.if-number-ne0.false in
-    let opened : let a = c.args in ListOpened a.s a.array.now a.book a.sector a.list.now false = let a = c.args in list_opened a.s a.array.now a.book a.sector a.list.now false clear in
-    omega (arith, names_fit _ _ _ _ _ _ opened)
+overflow_add-end c = omega (arith, names_fit _ _ _ _ _ _ (list_opened _ _ _ _ _ false (sym c.list_refusal-number.ensures ∙ c.if-number-ne0.false)))
 
 pub slice_bounds-mark_listed-end : goal.slice_bounds-mark_listed-end
-slice_bounds-mark_listed-end c =
-    let clear : let a = c.args in first_of (list_refusals a.s a.array.now a.book a.sector a.list.now false) ≡ 0 = sym c.list_refusal-number.ensures ∙ c.if-number-ne0.false in
-    let opened : let a = c.args in ListOpened a.s a.array.now a.book a.sector a.list.now false = let a = c.args in list_opened a.s a.array.now a.book a.sector a.list.now false clear in
-    names_fit _ _ _ _ _ _ (opened)
+slice_bounds-mark_listed-end c = names_fit _ _ _ _ _ _ (list_opened _ _ _ _ _ false (sym c.list_refusal-number.ensures ∙ c.if-number-ne0.false))
 
 pub mark_listed-unlisted-requires : goal.mark_listed-unlisted-requires
 mark_listed-unlisted-requires c =
-    let clear : let a = c.args in first_of (list_refusals a.s a.array.now a.book a.sector a.list.now false) ≡ 0 = sym c.list_refusal-number.ensures ∙ c.if-number-ne0.false in
-    let opened : let a = c.args in ListOpened a.s a.array.now a.book a.sector a.list.now false = let a = c.args in list_opened a.s a.array.now a.book a.sector a.list.now false clear in
-    let a = c.args in (
-      ap length (sector_sliced a.array.now a.sector) ∙ sector_long a.array.now a.sector (names_fit _ _ _ _ _ _ opened),
+    let opened = list_opened _ _ _ _ _ false (sym c.list_refusal-number.ensures ∙ c.if-number-ne0.false) in (
+      ap length (sector_sliced _ _) ∙ sector_long _ _ (names_fit _ _ _ _ _ _ opened),
       opened.good,
       opened.once,
       rw c.blank-used.ensures blank_bytes,
     )
 
 pub slice_bounds-put-end : goal.slice_bounds-put-end
-slice_bounds-put-end c =
-    let used_is : c.mark_listed-unlisted.new.used ≡ back_book ((names_in (listed c.args.list.now))) ((let a = c.args in names_of (sector_part a.array.now a.sector))) = let a = c.args in rw (sector_sliced a.array.now a.sector, c.blank-used.ensures) at c.mark_listed-unlisted.ensures.0 in
-    let used-long : length c.mark_listed-unlisted.new.used ≡ 512 = ap length used_is ∙ back_book_long ((names_in (listed c.args.list.now))) ((let a = c.args in names_of (sector_part a.array.now a.sector))) in
-    sym (used-long)
+slice_bounds-put-end c = sym (ap length (rw c.blank-used.ensures at c.mark_listed-unlisted.ensures.0) ∙ back_book_long _ _)
 
 pub put-requires : goal.put-requires
 put-requires c =
-    let used_is : c.mark_listed-unlisted.new.used ≡ back_book ((names_in (listed c.args.list.now))) ((let a = c.args in names_of (sector_part a.array.now a.sector))) = let a = c.args in rw (sector_sliced a.array.now a.sector, c.blank-used.ensures) at c.mark_listed-unlisted.ensures.0 in
-    let used-long : length c.mark_listed-unlisted.new.used ≡ 512 = ap length used_is ∙ back_book_long ((names_in (listed c.args.list.now))) ((let a = c.args in names_of (sector_part a.array.now a.sector))) in
-    omega (arith, used-long, ap length c.blank-wanted.ensures, padded_long [] (omega arith))
+    let used_long = ap length (rw c.blank-used.ensures at c.mark_listed-unlisted.ensures.0) ∙ back_book_long _ _ in
+    omega (arith, used_long, ap length c.blank-wanted.ensures, padded_long [] (omega arith))
 
 pub returns : goal.returns
 returns c =
-    let clear : let a = c.args in first_of (list_refusals a.s a.array.now a.book a.sector a.list.now false) ≡ 0 = sym c.list_refusal-number.ensures ∙ c.if-number-ne0.false in
-    let accepted : let a = c.args in back_refusal a.s a.array.now a.sector a.book a.list.now ≡ 0 = back_refusal_of _ _ _ _ _ ∙ clear in
-    let used_is : c.mark_listed-unlisted.new.used ≡ back_book ((names_in (listed c.args.list.now))) ((let a = c.args in names_of (sector_part a.array.now a.sector))) = let a = c.args in rw (sector_sliced a.array.now a.sector, c.blank-used.ensures) at c.mark_listed-unlisted.ensures.0 in
-    let used-long : length c.mark_listed-unlisted.new.used ≡ 512 = ap length used_is ∙ back_book_long ((names_in (listed c.args.list.now))) ((let a = c.args in names_of (sector_part a.array.now a.sector))) in
-    let laid : c.put.new.buffer ≡ wanted_back ((let a = c.args in names_of (sector_part a.array.now a.sector))) ((names_in (listed c.args.list.now))) = laid_over [] [] c.mark_listed-unlisted.new.used _ _ _ _ refl c.blank-wanted.ensures (omega arith) (omega (arith, used-long)) c.put.ensures ∙ ap padded used_is ∙ sym (back_is ((names_in (listed c.args.list.now))) ((let a = c.args in names_of (sector_part a.array.now a.sector)))) in
-    let count_is : c.mark_listed-unlisted.result ≡ unlisted ((names_in (listed c.args.list.now))) ((let a = c.args in names_of (sector_part a.array.now a.sector))) = let a = c.args in rw (sector_sliced a.array.now a.sector) at c.mark_listed-unlisted.ensures.1 in
+    let sliced = sector_sliced c.args.array.now c.args.sector in
+    let used_is = rw (sliced, c.blank-used.ensures) at c.mark_listed-unlisted.ensures.0 in
+    let used_long : length c.mark_listed-unlisted.new.used ≡ 512 = ap length used_is ∙ back_book_long _ _ in
+    let laid = laid_over [] [] _ _ _ _ _ refl c.blank-wanted.ensures (omega arith) (omega (arith, used_long)) c.put.ensures ∙ ap padded used_is ∙ sym (back_is _ _) in
     rw c.return_of.ensures
-    (returns_planned _ _ _ _ _ _ _ _ _ _ accepted (rw laid at c.plan_update-planned.ensures) count_is)
+    (returns_planned _ _ _ _ _ _ _ _ _ _ (back_refusal_of _ _ _ _ _ ∙ sym c.list_refusal-number.ensures ∙ c.if-number-ne0.false)
+    (rw laid at c.plan_update-planned.ensures) (rw sliced at c.mark_listed-unlisted.ensures.1))
