@@ -115,6 +115,10 @@ def write(path, text, was):
 
 def main():
     new = table()
+    if not new:
+        # a second run: what MET lists are definitions by now
+        print("nothing to turn")
+        return
     met = {it: f"{it}_lem" for it in MET}
     for path in sorted(glob.glob("crates/**/*.antt", recursive=True) + glob.glob("crates/**/*.rt", recursive=True)):
         text = read(path)
