@@ -31,8 +31,11 @@ Written by `tools/edits.py` from the lines of `rt must-fail` in a whole run. Eac
 
 def function_at(source, line):
     """The path of the function that this line of a crate's src/ belongs to. An edit changes lines and moves none."""
-    lines = open(source, encoding='utf-8').read().split('\n')[:line]
-    names = [m[1] for m in (re.search(r'\bfn (\w+)', it) for it in lines) if m]
+    lines = open(source, encoding='utf-8').read().split('\n')
+    # a function's attributes belong to it, and stand before its name
+    while lines[line - 1].lstrip().startswith('#['):
+        line += 1
+    names = [m[1] for m in (re.search(r'\bfn (\w+)', it) for it in lines[:line]) if m]
     module = re.sub(r'(^|/)(lib|main)$', '', source.split('/src/')[1][:-3])
     return '/'.join([module] * bool(module) + names[-1:])
 
