@@ -1,6 +1,7 @@
 -- The chips: all that differs between them (01, "The two chips and what is modelled"). A further chip is one more value, in `models`.
 use Rattle.std.specs.Prelude.{Bool, true, false, ◌||◌, cond, List, [], ◌∷◌, ℕ, eqb}
 use Rattle.chip.specs.declared.Chip.{Chip}
+use Rattle.chip.specs.declared.kinds.Kind.{Kind}
 use Rattle.chip.specs.Instructions.{instructions_008a, instructions_05pa, kind_in}
 
 -- The F25L008A (000).
@@ -51,7 +52,7 @@ f25l05pa = record {
 pub record Model : Type 0 where
   pub number : ℕ
   pub chip : Chip
-  pub instructions : List (ℕ × ℕ)
+  pub instructions : List (ℕ × Kind)
 
 abbrev pub model_008a : Model
 model_008a = record { number = 8; chip = f25l008a; instructions = instructions_008a }
@@ -83,9 +84,9 @@ model_of number = model_in models model_05pa number
 unfoldable pub chip_of : ℕ → Chip
 chip_of number = (model_of number).chip
 
-abbrev pub instructions_of : ℕ → List (ℕ × ℕ)
+abbrev pub instructions_of : ℕ → List (ℕ × Kind)
 instructions_of number = (model_of number).instructions
 
 -- an opcode's kind on the chip of a number
-unfoldable pub kind_of : ℕ → ℕ → ℕ
+unfoldable pub kind_of : ℕ → ℕ → Kind
 kind_of number op = kind_in (instructions_of number) op

@@ -8,6 +8,8 @@ pub mod kinds;
 ghost use Rattle.std.specs.Prelude.{◌≡◌};
 ghost use Rattle.chip.specs.Chip.{is_known, chip_of, kind_of};
 
+use kinds::Kind;
+
 #[derive(Clone, Copy)]
 pub struct Chip {
     // bytes of the array
@@ -43,36 +45,32 @@ pub struct Chip {
     pub keeps: bool,
 }
 
-// Of an unknown number: the F25L05PA.
+// Of an unknown number: the F25L05PA. No enum for the number: C hands in any, and each has a chip here.
+#[tactic(auto, unfolding(crate::specs::Chip::chip_of))]
 pub fn chip_of(number: u8) -> Chip
     ensures { result ≡ chip_of number }
 {
     if number == 8 {
-        f25l008a::data()
+        f25l008a::DATA
     } else {
-        f25l05pa::data()
+        f25l05pa::DATA
     }
 }
 
+#[tactic(auto, unfolding(crate::specs::Chip::is_known))]
 pub fn is_known(number: u8) -> bool
     ensures { result ≡ is_known number }
 {
-    (number == 8) | (number == 5)
+    number == 8 || number == 5
 }
 
-// The opcode's kind on the chip of a number. The compiler lays a constant table on the stack where it is read, and for an opcode that it
-// knows to be below 128, as most frames' are, the lower half alone: so that case stands apart, though both read the same.
-pub fn kind_of(number: u8, op: u8) -> u8
+// The opcode's kind on the chip of a number.
+pub fn kind_of(number: u8, op: u8) -> Kind
     ensures { result ≡ kind_of number op }
 {
-    if op < 128 {
-        if number == 8 {
-            return f25l008a::kind(op);
-        }
-        return f25l05pa::kind(op);
-    }
     if number == 8 {
-        return f25l008a::kind(op);
+        f25l008a::KINDS[usize::from(op)]
+    } else {
+        f25l05pa::KINDS[usize::from(op)]
     }
-    f25l05pa::kind(op)
 }

@@ -4,24 +4,26 @@ use Rattle.common.specs.Numbers.{three_bytes}
 use Rattle.state.specs.declared.State.{State}
 use Rattle.state.specs.State.{data_of}
 use Rattle.state.specs.Protection.{first_protected}
-use Rattle.chip.specs.Kinds.{
-  read,
-  fast_read,
-  sector_erase,
-  block_erase,
-  chip_erase,
-  byte_program,
-  page_program,
-  aai_program,
-  rdsr,
-  ewsr,
-  wrsr,
-  wren,
-  wrdi,
-  deep_power_down,
-  res,
-  jedec_id,
-  rdid,
+use Rattle.chip.specs.declared.kinds.Kind.{Kind}
+use Rattle.chip.specs.declared.kinds.Kind.TheVariants.{
+  Unknown,
+  Read,
+  FastRead,
+  SectorErase,
+  BlockErase,
+  ChipErase,
+  ByteProgram,
+  PageProgram,
+  AaiProgram,
+  Rdsr,
+  Ewsr,
+  Wrsr,
+  Wren,
+  Wrdi,
+  DeepPowerDown,
+  Res,
+  JedecId,
+  Rdid,
 }
 use Rattle.chip.specs.Chip.{kind_of}
 use Rattle.command.specs.declared.Command.{Command}
@@ -79,40 +81,33 @@ program_byte s f = when (long f 5) (when (writable s (address s f + 1)) (Program
 abbrev pub program_page : State → List ℕ → Command
 program_page s f = when (leb 5 (length f)) (when (writable s (address s f + 1)) (ProgramPage (address s f) (length f - 4)))
 
--- ---- the tables: the row of a number, and every other is ignored
+-- ---- at rest, a line a kind
+
+unfoldable pub by_kind : State → Bool → List ℕ → Kind → Command
+by_kind s wp f Unknown = Ignored
+by_kind s wp f Read = ReadArray (address s f) 4  -- 03
+by_kind s wp f FastRead = ReadArray (address s f) 5  -- 0B
+by_kind s wp f SectorErase = when (long f 4) (erase s (address s f / 4096 * 4096) 4096 90000)  -- 20
+by_kind s wp f BlockErase = when (long f 4) (erase s (address s f / 65536 * 65536) 65536 (data_of s).block_time)  -- D8
+by_kind s wp f ChipErase = erase_chip s f  -- 60, C7
+by_kind s wp f ByteProgram = program_byte s f  -- 02 (008A)
+by_kind s wp f PageProgram = program_page s f  -- 02 (05PA)
+by_kind s wp f AaiProgram = when (long f 6) (when (writable s (address s f / 2 * 2 + 2)) (ProgramWord (address s f / 2 * 2) 4))  -- AD
+by_kind s wp f Rdsr = ReadStatus  -- 05
+by_kind s wp f Ewsr = when (long f 1) Arm  -- 50
+by_kind s wp f Wrsr = write_status s wp f  -- 01
+by_kind s wp f Wren = when (long f 1) WriteEnable  -- 06
+by_kind s wp f Wrdi = when (long f 1) WriteDisable  -- 04
+by_kind s wp f DeepPowerDown = when (long f 1) Sleep  -- B9
+by_kind s wp f Res = ReadSignature  -- AB
+by_kind s wp f JedecId = ReadJedec  -- 9F
+by_kind s wp f Rdid = ReadIdentity (eqb (address s f % 2) 1)  -- 90
+
+-- ---- elsewhere, tables: the row of an opcode, and every other is ignored
 
 abbrev pub look : List (ℕ × Command) → ℕ → Command
-look [] n = Ignored
-look (r ∷ rs) n = cond (eqb n r.0) r.1 (look rs n)
-
--- at rest, a line a kind
-abbrev pub rows : State → Bool → List ℕ → List (ℕ × Command)
-rows s wp f =
-    let a = address s f in
-    let sector = a / 4096 * 4096 in
-    let block = a / 65536 * 65536 in
-    let even = a / 2 * 2 in
-    (read, ReadArray a 4)  -- 03
-    ∷ (fast_read, ReadArray a 5)  -- 0B
-    ∷ (sector_erase, when (long f 4) (erase s sector 4096 90000))  -- 20
-    ∷ (block_erase, when (long f 4) (erase s block 65536 (data_of s).block_time))  -- D8
-    ∷ (chip_erase, erase_chip s f)  -- 60, C7
-    ∷ (byte_program, program_byte s f)  -- 02 (008A)
-    ∷ (page_program, program_page s f)  -- 02 (05PA)
-    ∷ (aai_program, when (long f 6) (when (writable s (even + 2)) (ProgramWord even 4)))  -- AD
-    ∷ (rdsr, ReadStatus)  -- 05
-    ∷ (ewsr, when (long f 1) Arm)  -- 50
-    ∷ (wrsr, write_status s wp f)  -- 01
-    ∷ (wren, when (long f 1) WriteEnable)  -- 06
-    ∷ (wrdi, when (long f 1) WriteDisable)  -- 04
-    ∷ (deep_power_down, when (long f 1) Sleep)  -- B9
-    ∷ (res, ReadSignature)  -- AB
-    ∷ (jedec_id, ReadJedec)  -- 9F
-    ∷ (rdid, ReadIdentity (eqb (a % 2) 1))  -- 90
-    ∷ []
-
-unfoldable pub by_kind : State → Bool → List ℕ → ℕ → Command
-by_kind s wp f kind = look (rows s wp f) kind
+look [] op = Ignored
+look (r ∷ rs) op = cond (eqb op r.0) r.1 (look rs op)
 
 -- "in AAI only AD, 05, 04"
 abbrev pub aai_rows : State → List ℕ → List (ℕ × Command)

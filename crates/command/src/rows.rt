@@ -12,17 +12,20 @@ fn address_of(s: State, input: &[u8]) -> u32
     ensures { (result ≡ address s input.now) × (result < 1048576) }
 {
     let size = chip::chip_of(s.chip).size;
-    (common::wide(common::byte_at(input, 1)) * 65536
-        + common::wide(common::byte_at(input, 2)) * 256
-        + common::wide(common::byte_at(input, 3)))
-        % size
+    u32::from_be_bytes([
+        0,
+        common::byte_at(input, 1),
+        common::byte_at(input, 2),
+        common::byte_at(input, 3),
+    ]) % size
 }
 
 // WEL is 1, and a target that ends there is not protected.
+#[tactic(auto, unfolding(crate::specs::Command::writable))]
 fn is_writable(s: State, end: u32) -> bool
     ensures { result ≡ writable s end }
 {
-    s.wel & (end <= state::protection::first_protected(s))
+    s.wel && end <= state::protection::first_protected(s)
 }
 
 // An opcode that stands alone.
@@ -54,19 +57,14 @@ pub fn read_identity(s: State, input: &[u8]) -> Command
 pub fn write_status(s: State, wp: bool, input: &[u8]) -> Command
     ensures { result ≡ write_status s wp input.now }
 {
-    if input.len() != 2 {
-        return Command::Ignored;
-    }
-    if !s.armed {
-        return Command::Ignored;
-    }
-    if !s.bpl | wp {
-        return Command::WriteStatus {
+    if input.len() == 2 && s.armed && (!s.bpl || wp) {
+        Command::WriteStatus {
             byte: common::byte_at(input, 1),
             time: chip::chip_of(s.chip).status_time,
-        };
+        }
+    } else {
+        Command::Ignored
     }
-    Command::Ignored
 }
 
 // Erase `count` bytes from `start`.
@@ -74,72 +72,59 @@ fn erase_of(s: State, start: u32, count: u32, time: u32) -> Command
     requires { start + count < 4294967296 }
     ensures { result ≡ erase s start count time }
 {
-    if !is_writable(s, start + count) {
-        return Command::Ignored;
+    if is_writable(s, start + count) {
+        Command::Erase { start, count, time }
+    } else {
+        Command::Ignored
     }
-    Command::Erase { start, count, time }
 }
 
-pub fn erase_sector(s: State, input: &[u8]) -> Command
-    ensures { result ≡ when (long input.now 4) (erase s (address s input.now / 4096 * 4096) 4096 90000) }
+// Erase the sector or block that holds the address.
+pub fn erase_unit(s: State, input: &[u8], unit: u32, time: u32) -> Command
+    requires { (0 < unit) × (unit ≤ 65536) }
+    ensures { result ≡ when (long input.now 4) (erase s (address s input.now / unit * unit) unit time) }
 {
-    if input.len() != 4 {
-        return Command::Ignored;
+    if input.len() == 4 {
+        erase_of(s, address_of(s, input) / unit * unit, unit, time)
+    } else {
+        Command::Ignored
     }
-    erase_of(s, address_of(s, input) / 4096 * 4096, 4096, 90000)
-}
-
-pub fn erase_block(s: State, input: &[u8]) -> Command
-    ensures { result ≡ when (long input.now 4) (erase s (address s input.now / 65536 * 65536) 65536 (data_of s).block_time) }
-{
-    if input.len() != 4 {
-        return Command::Ignored;
-    }
-    erase_of(
-        s,
-        address_of(s, input) / 65536 * 65536,
-        65536,
-        chip::chip_of(s.chip).block_time,
-    )
 }
 
 pub fn erase_chip(s: State, input: &[u8]) -> Command
     ensures { result ≡ erase_chip s input.now }
 {
-    if input.len() != 1 {
-        return Command::Ignored;
-    }
     let chip = chip::chip_of(s.chip);
-    erase_of(s, 0, chip.size, chip.chip_time)
+    if input.len() == 1 {
+        erase_of(s, 0, chip.size, chip.chip_time)
+    } else {
+        Command::Ignored
+    }
 }
 
 pub fn program_byte(s: State, input: &[u8]) -> Command
     ensures { result ≡ program_byte s input.now }
 {
-    if input.len() != 5 {
-        return Command::Ignored;
-    }
     let address = address_of(s, input);
-    if !is_writable(s, address + 1) {
-        return Command::Ignored;
+    if input.len() == 5 && is_writable(s, address + 1) {
+        Command::ProgramByte { address }
+    } else {
+        Command::Ignored
     }
-    Command::ProgramByte { address }
 }
 
 pub fn program_page(s: State, input: &[u8]) -> Command
     requires { length input.now ≤ longest_frame }
     ensures { result ≡ program_page s input.now }
 {
-    if input.len() < 5 {
-        return Command::Ignored;
-    }
     let address = address_of(s, input);
-    if !is_writable(s, address + 1) {
-        return Command::Ignored;
-    }
-    Command::ProgramPage {
-        address,
-        count: (input.len() - 4) as u32,
+    if 5 <= input.len() && is_writable(s, address + 1) {
+        Command::ProgramPage {
+            address,
+            count: (input.len() - 4) as u32,
+        }
+    } else {
+        Command::Ignored
     }
 }
 
@@ -159,10 +144,11 @@ fn word_at(s: State, address: u32, from: u8) -> Command
 pub fn first_word(s: State, input: &[u8]) -> Command
     ensures { result ≡ when (long input.now 6) (when (writable s (address s input.now / 2 * 2 + 2)) (Command.ProgramWord (address s input.now / 2 * 2) 4)) }
 {
-    if input.len() != 6 {
-        return Command::Ignored;
+    if input.len() == 6 {
+        word_at(s, address_of(s, input) / 2 * 2, 4)
+    } else {
+        Command::Ignored
     }
-    word_at(s, address_of(s, input) / 2 * 2, 4)
 }
 
 // A further word, at the next address.
@@ -170,8 +156,9 @@ pub fn next_word(s: State, input: &[u8]) -> Command
     requires { s.next < 2097152 }
     ensures { result ≡ when (long input.now 3) (when (writable s (s.next + 2)) (Command.ProgramWord s.next 1)) }
 {
-    if input.len() != 3 {
-        return Command::Ignored;
+    if input.len() == 3 {
+        word_at(s, s.next, 1)
+    } else {
+        Command::Ignored
     }
-    word_at(s, s.next, 1)
 }

@@ -4,37 +4,39 @@ ghost use Rattle.common.specs.Limits.{longest_frame};
 ghost use Rattle.command.specs.Command.{look, by_kind, in_aai, command_of};
 
 use crate::{Command, rows};
-use chip::kinds;
+use chip::kinds::Kind;
 use state::State;
 
 // At rest: neither busy nor in AAI nor in power-down.
-fn by_kind(s: State, wp: bool, kind: u8, input: &[u8]) -> Command
+#[tactic(auto, unfolding(crate::specs::Command::by_kind))]
+fn by_kind(s: State, wp: bool, kind: Kind, input: &[u8]) -> Command
     requires { length input.now ≤ longest_frame }
     ensures { result ≡ by_kind s wp input.now kind }
 {
     match kind {
-        kinds::READ => rows::read_array(s, input, 4),
-        kinds::FAST_READ => rows::read_array(s, input, 5),
-        kinds::SECTOR_ERASE => rows::erase_sector(s, input),
-        kinds::BLOCK_ERASE => rows::erase_block(s, input),
-        kinds::CHIP_ERASE => rows::erase_chip(s, input),
-        kinds::BYTE_PROGRAM => rows::program_byte(s, input),
-        kinds::PAGE_PROGRAM => rows::program_page(s, input),
-        kinds::AAI_PROGRAM => rows::first_word(s, input),
-        kinds::RDSR => Command::ReadStatus,
-        kinds::EWSR => rows::alone(input, Command::Arm),
-        kinds::WRSR => rows::write_status(s, wp, input),
-        kinds::WREN => rows::alone(input, Command::WriteEnable),
-        kinds::WRDI => rows::alone(input, Command::WriteDisable),
-        kinds::DEEP_POWER_DOWN => rows::alone(input, Command::Sleep),
-        kinds::RES => Command::ReadSignature,
-        kinds::JEDEC_ID => Command::ReadJedec,
-        kinds::RDID => rows::read_identity(s, input),
-        _ => Command::Ignored,
+        Kind::Unknown => Command::Ignored,
+        Kind::Read => rows::read_array(s, input, 4),
+        Kind::FastRead => rows::read_array(s, input, 5),
+        Kind::SectorErase => rows::erase_unit(s, input, 4096, 90000),
+        Kind::BlockErase => rows::erase_unit(s, input, 65536, chip::chip_of(s.chip).block_time),
+        Kind::ChipErase => rows::erase_chip(s, input),
+        Kind::ByteProgram => rows::program_byte(s, input),
+        Kind::PageProgram => rows::program_page(s, input),
+        Kind::AaiProgram => rows::first_word(s, input),
+        Kind::Rdsr => Command::ReadStatus,
+        Kind::Ewsr => rows::alone(input, Command::Arm),
+        Kind::Wrsr => rows::write_status(s, wp, input),
+        Kind::Wren => rows::alone(input, Command::WriteEnable),
+        Kind::Wrdi => rows::alone(input, Command::WriteDisable),
+        Kind::DeepPowerDown => rows::alone(input, Command::Sleep),
+        Kind::Res => Command::ReadSignature,
+        Kind::JedecId => Command::ReadJedec,
+        Kind::Rdid => rows::read_identity(s, input),
     }
 }
 
 // In AAI only AD, 05, 04.
+#[tactic(auto, unfolding(crate::specs::Command::in_aai))]
 fn in_aai(s: State, op: u8, input: &[u8]) -> Command
     requires { s.next < 2097152 }
     ensures { result ≡ in_aai s input.now op }
@@ -47,40 +49,28 @@ fn in_aai(s: State, op: u8, input: &[u8]) -> Command
     }
 }
 
-// While busy only 05.
-fn while_busy(op: u8) -> Command
-    ensures { result ≡ look ((0x05, Command.ReadStatus) ∷ []) op }
-{
-    match op {
-        0x05 => Command::ReadStatus,
-        _ => Command::Ignored,
-    }
-}
-
-// In power-down only AB.
-fn asleep(op: u8) -> Command
-    ensures { result ≡ look ((0xab, Command.ReadSignature) ∷ []) op }
-{
-    match op {
-        0xab => Command::ReadSignature,
-        _ => Command::Ignored,
-    }
-}
-
-// The frame understood.
+// The frame understood: while busy only 05 is taken, in power-down only AB.
+// No type holds the bound on the next address or on the frame's length: each goes down one chain of calls, and is asked for once, at its end.
+#[tactic(auto, unfolding(crate::specs::Command::command_of))]
 pub fn command_of(s: State, wp: bool, input: &[u8]) -> Command
     requires { (s.next < 2097152) × (length input.now ≤ longest_frame) }
     ensures { result ≡ command_of s wp input.now }
 {
     let op = common::byte_at(input, 0);
     if 0 < s.left {
-        return while_busy(op);
+        return match op {
+            0x05 => Command::ReadStatus,
+            _ => Command::Ignored,
+        };
     }
     if s.aai {
         return in_aai(s, op, input);
     }
     if s.power_down {
-        return asleep(op);
+        return match op {
+            0xab => Command::ReadSignature,
+            _ => Command::Ignored,
+        };
     }
     by_kind(s, wp, chip::kind_of(s.chip, op), input)
 }

@@ -1,5 +1,5 @@
 -- Lists by place: what stands at each index, what becomes of it, and how many indexes pass a test.
-use Rattle.std.specs.Prelude.{◌≡◌, Bool, ◌&&◌, cond, List, [], ◌∷◌, ℕ, zero, suc, ◌+◌, ◌<◌, leb, ltb, get_or}
+use Rattle.std.specs.Prelude.{Bool, ◌&&◌, cond, List, [], ◌∷◌, ℕ, zero, suc, ◌+◌, leb, ltb}
 
 -- each byte x at place k becomes f k x
 abbrev pub mapi : (ℕ → ℕ → ℕ) → List ℕ → List ℕ
@@ -18,10 +18,6 @@ up_to i f k x = cond (ltb k i) (f k x) x
 -- f at the places lo up to hi, and nothing elsewhere
 abbrev pub on_run : ℕ → ℕ → (ℕ → ℕ → ℕ) → ℕ → ℕ → ℕ
 on_run lo hi f k x = cond (leb lo k && ltb k hi) (f k x) x
-
--- the first n elements of a list are those of another from place `at` on
-abbrev pub FrontIs : ℕ → List ℕ → ℕ → List ℕ → Type 0
-FrontIs n source at strip = (i : ℕ) → i < n → get_or strip i 0 ≡ get_or source (at + i) 0
 
 -- how many numbers below k pass the test
 unfoldable pub count_below : (ℕ → Bool) → ℕ → ℕ

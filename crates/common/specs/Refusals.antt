@@ -1,5 +1,7 @@
 -- Refusals of a call (01, "Refusal numbers, in the order checked").
-use Rattle.std.specs.Prelude.{Bool, cond, List, [], ◌∷◌, ℕ, eqb}
+use Rattle.std.specs.Prelude.{Bool, cond, List, [], ◌∷◌, ℕ, eqb, Result, Ok, Err}
+use Rattle.common.specs.declared.refusals.Refusal.{Refusal}
+use Rattle.common.specs.declared.refusals.Refusal.TheVariants.{StateNotSound, WrongArray, WrongFrame, WrongOutput, WrongMask, WrongRegion, NotAtRest, WantedRises, StatusLocked, BufferTooShort, ScriptTooLong, UnknownMark, WrongLength, CutShort, WrongBook, WrongNames, NameTwice, RecordsTooLong}
 
 -- ---- the numbers, in the order of the table
 
@@ -75,7 +77,33 @@ name_twice = 19
 abbrev pub records_too_long : ℕ
 records_too_long = 20
 
+-- the number of each refusal
+abbrev pub number_of : Refusal → ℕ
+number_of StateNotSound = state_not_sound
+number_of WrongArray = wrong_array
+number_of WrongFrame = wrong_frame
+number_of WrongOutput = wrong_output
+number_of WrongMask = wrong_mask
+number_of WrongRegion = wrong_region
+number_of NotAtRest = not_at_rest
+number_of WantedRises = wanted_rises
+number_of StatusLocked = status_locked
+number_of BufferTooShort = buffer_too_short
+number_of ScriptTooLong = script_too_long
+number_of UnknownMark = unknown_mark
+number_of WrongLength = wrong_length
+number_of CutShort = cut_short
+number_of WrongBook = wrong_book
+number_of WrongNames = wrong_names
+number_of NameTwice = name_twice
+number_of RecordsTooLong = records_too_long
+
 -- ---- what a call makes of them
+
+-- the number of a test's answer: 0 where it passes
+abbrev pub number_in : {A : Type 0} → Result A Refusal → ℕ
+number_in (Ok _) = 0
+number_in (Err refusal) = number_of refusal
 
 -- a call's refusals, each number with its condition, in the order checked: the number of the first that holds, 0 where none does
 abbrev pub first_of : List (ℕ × Bool) → ℕ

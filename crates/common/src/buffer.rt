@@ -7,12 +7,7 @@ pub fn put(bytes: &[u8], buffer: &mut [u8], at: usize) -> usize
     requires { at + length bytes.now ≤ length buffer.old }
     ensures { Put at bytes.now buffer.old buffer.new result }
 {
-    let mut next = at;
-    let mut i: usize = 0;
-    while i < bytes.len() {
-        buffer[next] = bytes[i];
-        next += 1;
-        i += 1;
-    }
+    let next = at + bytes.len();
+    buffer[at..next].copy_from_slice(bytes);
     next
 }

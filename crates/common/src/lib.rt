@@ -15,32 +15,7 @@ ghost use Rattle.common.specs.Numbers.{address_bytes};
 pub fn byte_at(bytes: &[u8], i: usize) -> u8
     ensures { result ≡ get_or bytes.now i 0 }
 {
-    if i < bytes.len() { bytes[i] } else { 0 }
-}
-
-pub fn wide(byte: u8) -> u32
-    ensures { (result ≡ byte) × (result < 256) }
-{
-    byte as u32
-}
-
-// a less b, and 0 where b is more.
-pub fn less(a: usize, b: usize) -> usize
-    ensures { result ≡ a - b }
-{
-    if b < a { a - b } else { 0 }
-}
-
-pub fn smaller(a: usize, b: usize) -> usize
-    ensures { result ≡ min a b }
-{
-    if a < b { a } else { b }
-}
-
-pub fn larger(a: usize, b: usize) -> usize
-    ensures { result ≡ max a b }
-{
-    if a < b { b } else { a }
+    bytes.get(i).copied().unwrap_or(0)
 }
 
 // A bit of the given value where it is set, else 0.
@@ -50,20 +25,10 @@ pub fn bit_of(set: bool, value: u8) -> u8
     if set { value } else { 0 }
 }
 
-// Whether place k is one of the `count` from `start` on.
-pub fn is_within(start: u32, count: u32, k: usize) -> bool
-    ensures { result ≡ within start count k }
-{
-    (start as usize <= k) & (k < start as usize + count as usize)
-}
-
 // An address as three bytes, high byte first.
 pub fn address_bytes(address: usize) -> [u8; 3]
     ensures { result ≡ address_bytes address }
 {
-    [
-        (address / 65536 % 256) as u8,
-        (address / 256 % 256) as u8,
-        (address % 256) as u8,
-    ]
+    let [.., high, middle, low] = address.to_be_bytes();
+    [high, middle, low]
 }

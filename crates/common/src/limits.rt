@@ -8,3 +8,9 @@ pub const LONGEST_SCRIPT: usize = 32768;
 
 // A plan takes "up to 4,096 wanted bytes".
 pub const LONGEST_WANTED: usize = 4096;
+
+// A sector is 4,096 bytes,
+pub const SECTOR: usize = 4096;
+
+// and where it is erased, each is FF.
+pub const ERASED: u8 = 0xff;

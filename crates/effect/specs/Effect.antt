@@ -1,8 +1,8 @@
 -- What a frame does to the array (01, "Frames"): which addresses it touches, and the byte that each gets. Nothing here knows a state.
 use Rattle.std.specs.Prelude.{Bool, false, ◌&&◌, cond, List, ℕ, ◌+◌, ◌-◌, ◌*◌, ◌/◌, ◌%◌, ◌≤◌, leb, ltb, eqb, get_or, length}
 use Rattle.std.specs.Int.Bits.{bit_and}
+use Rattle.std.specs.declared.ops.Range.{Range}
 use Rattle.common.specs.Lists.{within}
-use Rattle.effect.specs.declared.Span.{Span}
 use Rattle.effect.specs.declared.Effect.{Effect}
 use Rattle.effect.specs.declared.Effect.TheVariants.{Keep, Fill, Program, Round}
 
@@ -43,12 +43,12 @@ Supplied (Fill a n) f = Unit {0}
 Supplied (Program a n i) f = i + n ≤ length f
 Supplied (Round a n) f = Unit {0}
 
--- addresses lo up to hi, among which all touched ones lie
-abbrev pub span_of : Effect → Span
-span_of Keep = record { lo = 0; hi = 0 }
-span_of (Fill a n) = record { lo = a; hi = a + n }
-span_of (Program a n i) = record { lo = a; hi = a + n }
-span_of (Round a n) = record { lo = a / 256 * 256; hi = a / 256 * 256 + 256 }
+-- the addresses among which all touched ones lie
+abbrev pub span_of : Effect → Range ℕ
+span_of Keep = record { start = 0; end = 0 }
+span_of (Fill a n) = record { start = a; end = a + n }
+span_of (Program a n i) = record { start = a; end = a + n }
+span_of (Round a n) = record { start = a / 256 * 256; end = a / 256 * 256 + 256 }
 
 -- how many are touched: "one byte for each array byte the frame programs or erases"
 unfoldable pub mask_length : Effect → ℕ

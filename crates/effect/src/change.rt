@@ -1,39 +1,16 @@
 // The array changed by an effect: whole, or as a power cut leaves it.
-ghost use Rattle.std.specs.Prelude.{◌≡◌, cond, ◌+◌, ◌<◌, ◌≤◌, length};
+ghost use Rattle.std.specs.Prelude.{◌≡◌, ◌<◌, ◌≤◌, length, get_or, drop};
+ghost use Rattle.std.specs.Slice.Iter.{iter_rest};
 ghost use Rattle.common.specs.Lists.{mapi};
-ghost use Rattle.effect.specs.Effect.{span_of, touches, struck, changed, Supplied};
+ghost use Rattle.effect.specs.Effect.{span_of, changed, Supplied};
 ghost use Rattle.effect.specs.Cut.{mixed, cut};
 
-use crate::Effect;
-
-fn changed_byte(e: Effect, input: &[u8], k: usize, old: u8) -> u8
-    requires { k < 4294967296 }
-    ensures { result ≡ changed e input.now k old }
-{
-    if crate::is_touched(e, k) {
-        crate::struck_byte(e, input, k, old)
-    } else {
-        old
-    }
-}
-
-// Address by address through the effect's span.
-fn change_each(array: &mut [u8], e: Effect, input: &[u8])
-    requires { ((span_of e).lo ≤ (span_of e).hi) × ((span_of e).hi ≤ length array.old) × (length array.old < 4294967296) }
-    ensures { array.new ≡ mapi (changed e input.now) array.old }
-{
-    let span = crate::span_of(e);
-    let hi = span.hi;
-    let mut k = span.lo;
-    while k < hi {
-        array[k] = changed_byte(e, input, k, array[k]);
-        k += 1;
-    }
-}
+use crate::{Effect, is_touched, span_of, struck_byte};
+use std::slice::Iter;
 
 // Runs of neighbours in one pass, and a page that goes round address by address.
 pub fn change(array: &mut [u8], e: Effect, input: &[u8])
-    requires { ((span_of e).lo ≤ (span_of e).hi) × ((span_of e).hi ≤ length array.old) × (length array.old < 4294967296) × Supplied e input.now }
+    requires { ((span_of e).end ≤ length array.old) × (length array.old < 4294967296) × Supplied e input.now }
     ensures { array.new ≡ mapi (changed e input.now) array.old }
 {
     match e {
@@ -46,45 +23,42 @@ pub fn change(array: &mut [u8], e: Effect, input: &[u8])
             let lo = start as usize;
             common::runs::and_run(array, lo, lo + count as usize, input, from as usize);
         }
-        Effect::Round {
-            address: _,
-            count: _,
-        } => {
-            change_each(array, e, input);
+        Effect::Round { .. } => {
+            for k in span_of(e) {
+                if is_touched(e, k) {
+                    array[k as usize] = struck_byte(e, input, k, array[k as usize]);
+                }
+            }
         }
     }
 }
 
 // The new bit where the mask has 1, the old where it has 0.
+#[tactic(auto, unfolding(crate::specs::Cut::mixed))]
 fn mixed_byte(mask: u8, old: u8, new: u8) -> u8
     ensures { result ≡ mixed mask old new }
 {
-    new & mask | old & (255 - mask)
+    new & mask | old & !mask
 }
 
-fn cut_byte(e: Effect, input: &[u8], k: usize, old: u8, mask: u8) -> u8
-    requires { k < 4294967296 }
-    ensures { result ≡ cond (touches e k) (mixed mask old (struck e input.now k old)) old }
+// A mask's next byte, 0 behind its last.
+fn next_byte(mask: &mut Iter<u8>) -> u8
+    ensures { (result ≡ get_or (iter_rest mask.old) 0 0) × (iter_rest mask.new ≡ drop 1 (iter_rest mask.old)) }
 {
-    if crate::is_touched(e, k) {
-        mixed_byte(mask, old, crate::struck_byte(e, input, k, old))
-    } else {
-        old
-    }
+    mask.next().copied().unwrap_or(0)
 }
 
 // Cut by a mask, one byte for each touched address, by rising address.
 pub fn cut_change(array: &mut [u8], e: Effect, input: &[u8], mask: &[u8])
-    requires { ((span_of e).lo ≤ (span_of e).hi) × ((span_of e).hi ≤ length array.old) × (length array.old < 4294967296) }
+    requires { ((span_of e).end ≤ length array.old) × (length array.old < 4294967296) }
     ensures { array.new ≡ mapi (cut e input.now mask.now) array.old }
 {
-    let span = crate::span_of(e);
-    let hi = span.hi;
-    let mut k = span.lo;
-    let mut place = 0;
-    while k < hi {
-        array[k] = cut_byte(e, input, k, array[k], common::byte_at(mask, place));
-        place += crate::is_touched(e, k) as usize;
-        k += 1;
+    let mut bytes = mask.iter();
+    for k in span_of(e) {
+        if is_touched(e, k) {
+            let old = array[k as usize];
+            let new = struck_byte(e, input, k, old);
+            array[k as usize] = mixed_byte(next_byte(&mut bytes), old, new);
+        }
     }
 }

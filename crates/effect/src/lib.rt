@@ -4,7 +4,10 @@
 pub mod change;
 
 ghost use Rattle.std.specs.Prelude.{◌≡◌, ◌<◌};
+ghost use Rattle.common.specs.Lists.{within};
 ghost use Rattle.effect.specs.Effect.{page_effect, span_of, turn, last_for, touches, struck, mask_length};
+
+use std::ops::Range;
 
 #[derive(Clone, Copy)]
 pub enum Effect {
@@ -17,14 +20,8 @@ pub enum Effect {
     Round { address: u32, count: u32 },
 }
 
-// The addresses lo up to hi: all touched ones are among them.
-#[derive(Clone, Copy)]
-struct Span {
-    lo: usize,
-    hi: usize,
-}
-
 // A page program that stays below the page's end, or goes round.
+#[tactic(auto, unfolding(crate::specs::Effect::page_effect))]
 pub fn page_effect(address: u32, count: u32) -> Effect
     ensures { result ≡ page_effect address count }
 {
@@ -38,95 +35,84 @@ pub fn page_effect(address: u32, count: u32) -> Effect
     Effect::Round { address, count }
 }
 
-fn span_of(e: Effect) -> Span
+// The addresses among which all touched ones lie.
+fn span_of(e: Effect) -> Range<u32>
+    requires { (span_of e).end < 4294967296 }
     ensures { result ≡ span_of e }
 {
     match e {
-        Effect::Keep => Span { lo: 0, hi: 0 },
-        Effect::Fill { start, count } => Span {
-            lo: start as usize,
-            hi: start as usize + count as usize,
-        },
-        Effect::Program {
-            start,
-            count,
-            from: _,
-        } => Span {
-            lo: start as usize,
-            hi: start as usize + count as usize,
-        },
-        Effect::Round { address, count: _ } => Span {
-            lo: address as usize / 256 * 256,
-            hi: address as usize / 256 * 256 + 256,
-        },
+        Effect::Keep => 0..0,
+        Effect::Fill { start, count } => start..start + count,
+        Effect::Program { start, count, .. } => start..start + count,
+        Effect::Round { address, .. } => {
+            let page = address / 256 * 256;
+            page..page + 256
+        }
     }
 }
 
 // How many bytes on from the address, round the page.
-fn turn_of(address: u32, k: usize) -> usize
-    requires { k < 4294967296 }
+fn turn_of(address: u32, k: u32) -> u32
     ensures { (result ≡ turn address k) × (result < 256) }
 {
-    (k + (256 - address as usize % 256)) % 256
+    (k % 256 + (256 - address % 256)) % 256
 }
 
-fn is_touched(e: Effect, k: usize) -> bool
-    requires { k < 4294967296 }
+// Whether an address is one of so many from a start on.
+#[tactic(auto, unfolding(common::specs::Lists::within))]
+fn is_within(start: u32, count: u32, k: u32) -> bool
+    ensures { result ≡ within start count k }
+{
+    start <= k && k - start < count
+}
+
+#[tactic(auto, unfolding(crate::specs::Effect::touches))]
+fn is_touched(e: Effect, k: u32) -> bool
     ensures { result ≡ touches e k }
 {
     match e {
         Effect::Keep => false,
-        Effect::Fill { start, count } => common::is_within(start, count, k),
-        Effect::Program {
-            start,
-            count,
-            from: _,
-        } => common::is_within(start, count, k),
+        Effect::Fill { start, count } => is_within(start, count, k),
+        Effect::Program { start, count, .. } => is_within(start, count, k),
         Effect::Round { address, count } => {
-            (k / 256 == address as usize / 256) & (turn_of(address, k) < count as usize)
+            k / 256 == address / 256 && turn_of(address, k) < count
         }
     }
 }
 
 // The last of the data bytes for an address, round the page.
-fn last_for(address: u32, count: u32, k: usize) -> usize
-    requires { k < 4294967296 }
-    ensures { (result ≡ last_for address count k) × (result < 8589934592) }
+fn last_for(address: u32, count: u32, k: u32) -> u32
+    ensures { result ≡ last_for address count k }
 {
     let turn = turn_of(address, k);
-    turn + common::less(common::less(count as usize, 1), turn) / 256 * 256
+    turn + count.saturating_sub(1).saturating_sub(turn) / 256 * 256
 }
 
 // The byte that a touched address gets.
-fn struck_byte(e: Effect, input: &[u8], k: usize, old: u8) -> u8
-    requires { k < 4294967296 }
+#[tactic(auto, unfolding(crate::specs::Effect::struck))]
+fn struck_byte(e: Effect, input: &[u8], k: u32, old: u8) -> u8
     ensures { result ≡ struck e input.now k old }
 {
     match e {
         Effect::Keep => old,
-        Effect::Fill { start: _, count: _ } => 0xff,
-        Effect::Program {
-            start,
-            count: _,
-            from,
-        } => old & common::byte_at(input, from as usize + common::less(k, start as usize)),
+        Effect::Fill { .. } => 0xff,
+        Effect::Program { start, from, .. } => {
+            old & common::byte_at(input, from as usize + k.saturating_sub(start) as usize)
+        }
         Effect::Round { address, count } => {
-            old & common::byte_at(input, 4 + last_for(address, count, k))
+            old & common::byte_at(input, 4 + last_for(address, count, k) as usize)
         }
     }
 }
 
+#[tactic(auto, unfolding(crate::specs::Effect::mask_length))]
 pub fn mask_length(e: Effect) -> usize
     ensures { result ≡ mask_length e }
 {
     match e {
         Effect::Keep => 0,
-        Effect::Fill { start: _, count } => count as usize,
-        Effect::Program {
-            start: _,
-            count,
-            from: _,
-        } => count as usize,
-        Effect::Round { address: _, count } => { if count < 256 { count as usize } else { 256 } }
+        Effect::Fill { count, .. } => count as usize,
+        Effect::Program { count, .. } => count as usize,
+        Effect::Round { count, .. } => count.min(256) as usize,
     }
 }

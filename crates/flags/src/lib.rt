@@ -2,19 +2,22 @@
 // what `promises` says, and nothing else.
 #![tactic(auto)]
 
-ghost use Rattle.std.specs.Prelude.{◌≡◌};
-ghost use Rattle.flags.specs.Answers.{name_told, NameMarks, BookMoves, refused_return, returned_of, BookReturns};
+ghost use Rattle.std.specs.Prelude.{◌≡◌, ◌+◌, ◌≤◌, length};
+ghost use Rattle.sectors.specs.Images.{sector_part};
+ghost use Rattle.flags.specs.Answers.{name_told, NameMarks, BookMoves, returned_of, BookReturns};
 
+use book::sizes::USED;
+use book::telling::Book;
 use common::buffer::put;
-use common::refusals;
-use namechecks::refusal;
+use common::limits::{ERASED, SECTOR};
+use common::refusals::Refusal;
+use namechecks::refusal::{check_list, check_name};
 use names::record::HEAD;
 use names::search::find;
-use sectors::sizes::SECTOR;
 use sectors::{image, moving, returning};
 use state::{Planned, State, Told};
 
-// The answer of the way back: a plan's, and how many records have a name that is not on the list; with a refusal 0.
+// The answer of the way back: a plan's, and how many records have a name that is not on the list; with a refusal 0. No Result: C reads this struct.
 #[repr(C)]
 #[derive(Clone, Copy)]
 pub struct Returned {
@@ -26,18 +29,24 @@ pub struct Returned {
     pub unlisted: u32,
 }
 
+// The bytes of a sector.
+fn sector_at(array: &[u8], sector: usize) -> &[u8]
+    requires { sector + 4096 ≤ length array.now }
+    ensures { result.now ≡ sector_part array.now sector }
+{
+    let end = sector + SECTOR;
+    &array[sector..end]
+}
+
 // Whether a record has the name: 1 or 0.
 pub fn is_read(s: State, array: &[u8], sector: usize, name: &[u8]) -> Told
     ensures { result ≡ name_told s array.now sector name.now }
 {
-    let number = refusal::name_refusal(s, array.len(), sector, name);
-    if number != 0 {
-        return state::tell(number, s, 0);
+    if let Err(refusal) = check_name(s, array.len(), sector, name) {
+        return state::tell(refusal.number(), s, 0);
     }
-    let end = sector + SECTOR;
-    let search = find(&array[sector..end], name);
-    let flag = common::bit_of(search.found, 1);
-    state::tell(0, s, common::wide(flag))
+    let found = find(sector_at(array, sector), name).is_ok();
+    state::tell(0, s, u32::from(found))
 }
 
 // Plan the marking of a name: the script goes to the front of the buffer.
@@ -51,22 +60,19 @@ pub fn mark(
 ) -> Planned
     ensures { NameMarks s wp array.now sector name.now buffer.old buffer.new result }
 {
-    let number = refusal::name_refusal(s, array.len(), sector, name);
-    if number != 0 {
-        return state::refuse_plan(number, s);
+    if let Err(refusal) = check_name(s, array.len(), sector, name) {
+        return state::refuse_plan(refusal.number(), s);
     }
-    let end = sector + SECTOR;
-    let image = &array[sector..end];
-    let search = find(image, name);
-    // a name that is there wants the sector as it stands
-    if search.found {
+    let image = sector_at(array, sector);
+    let Err(records_end) = find(image, name) else {
+        // a name that is there wants the sector as it stands
         return promises::plan_update(s, wp, array, sector, image, buffer);
-    }
-    if SECTOR - search.end < HEAD + name.len() {
-        return state::refuse_plan(refusals::RECORDS_TOO_LONG, s);
+    };
+    if SECTOR - records_end < HEAD + name.len() {
+        return state::refuse_plan(Refusal::RecordsTooLong.number(), s);
     }
     let mut wanted = image::blank();
-    image::append(image, search.end, name, &mut wanted);
+    image::append(image, records_end, name, &mut wanted);
     promises::plan_update(s, wp, array, sector, &wanted, buffer)
 }
 
@@ -82,43 +88,32 @@ pub fn move_there(
 ) -> Planned
     ensures { BookMoves s wp array.now book sector list.now buffer.old buffer.new result }
 {
-    let number = refusal::list_refusal(s, array, book, sector, list, true);
-    if number != 0 {
-        return state::refuse_plan(number, s);
+    let names = match check_list(s, array, book, sector, list, true) {
+        Ok(names) => names,
+        Err(refusal) => return state::refuse_plan(refusal.number(), s),
+    };
+    let book = Book {
+        array,
+        sector: book,
+    };
+    let mut wanted = image::blank();
+    if let Err(refusal) = moving::lay_move(&book, &names, sector_at(array, sector), &mut wanted) {
+        return state::refuse_plan(refusal.number(), s);
     }
-    let end = sector + SECTOR;
-    let mut records = image::blank();
-    if !moving::lay_move(array, book, list, &array[sector..end], &mut records) {
-        return state::refuse_plan(refusals::RECORDS_TOO_LONG, s);
-    }
-    promises::plan_update(s, wp, array, sector, &records, buffer)
+    promises::plan_update(s, wp, array, sector, &wanted, buffer)
 }
 
-fn refuse_return(number: u32, state: State) -> Returned
-    ensures { result ≡ refused_return number state }
-{
-    Returned {
-        number,
-        state,
-        length: 0,
-        frames: 0,
-        microseconds: 0,
-        unlisted: 0,
-    }
-}
-
+// No `From`: a plan alone doesn't tell the count.
 fn return_of(planned: Planned, unlisted: u32) -> Returned
     ensures { result ≡ returned_of planned unlisted }
 {
-    let told = if planned.number == 0 { unlisted } else { 0 };
-    let state = planned.state;
     Returned {
         number: planned.number,
-        state,
+        state: planned.state,
         length: planned.length,
         frames: planned.frames,
         microseconds: planned.microseconds,
-        unlisted: told,
+        unlisted: if planned.number == 0 { unlisted } else { 0 },
     }
 }
 
@@ -134,13 +129,12 @@ pub fn move_back(
 ) -> Returned
     ensures { BookReturns s wp array.now sector book list.now buffer.old buffer.new result }
 {
-    let number = refusal::list_refusal(s, array, book, sector, list, false);
-    if number != 0 {
-        return refuse_return(number, s);
-    }
-    let end = sector + SECTOR;
-    let mut used = book::marking::blank();
-    let unlisted = returning::mark_listed(&array[sector..end], list, &mut used);
+    let names = match check_list(s, array, book, sector, list, false) {
+        Ok(names) => names,
+        Err(refusal) => return return_of(state::refuse_plan(refusal.number(), s), 0),
+    };
+    let mut used = [ERASED; USED];
+    let unlisted = returning::mark_listed(sector_at(array, sector), &names, &mut used);
     let mut wanted = image::blank();
     put(&used, &mut wanted, 0);
     let planned = promises::plan_update(s, wp, array, book, &wanted, buffer);

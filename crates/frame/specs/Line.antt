@@ -1,7 +1,6 @@
 -- The line on which a chip answers (02, A10): what a call is lent for it, and what a chip shows on it.
-use Rattle.std.specs.Prelude.{◌≡◌, Bool, ◌||◌, not, List, [], ◌++◌, ℕ, eqb, length, take, drop}
+use Rattle.std.specs.Prelude.{◌≡◌, Bool, ◌||◌, not, List, [], ◌++◌, ℕ, eqb, length, take, drop, Option}
 use Rattle.common.specs.Lists.{tab}
-use Rattle.output.specs.declared.Shown.{Shown}
 use Rattle.output.specs.Output.{byte_of, driven_of}
 
 -- two slices, byte by byte: what is read, and 01 where the chip drove it, 00 where it was silent
@@ -13,7 +12,7 @@ abbrev pub on_line : List ℕ → List ℕ → Line
 on_line output driven = record { output = output; driven = driven }
 
 -- so many bytes as they are shown
-abbrev pub showing : ℕ → (ℕ → Shown) → Line
+abbrev pub showing : ℕ → (ℕ → Option ℕ) → Line
 showing n shown = on_line (tab n (λ i. byte_of (shown i))) (tab n (λ i. driven_of (shown i)))
 
 -- ---- how long it is

@@ -1,5 +1,8 @@
 // The calls: run a frame, run an interrupted frame. Each is its refusals, then the accepted frame.
+// The slices stay parameters, here and in `accepted`: C lends each apart, and a struct that held the `&mut` among them would ask a clause on each one's
+// ghost name of every function.
 ghost use Rattle.std.specs.Prelude.{◌≡◌};
+ghost use Rattle.common.specs.Refusals.{number_in};
 ghost use Rattle.frame.specs.Device.{device};
 ghost use Rattle.frame.specs.Line.{on_line};
 ghost use Rattle.frame.specs.Call.{frame_number, FrameRun, cut_number, CutRun};
@@ -7,25 +10,33 @@ ghost use Rattle.frame.specs.Call.{frame_number, FrameRun, cut_number, CutRun};
 use crate::accepted::{run_accepted, run_accepted_cut};
 use crate::cut::takes_mask;
 use common::limits::LONGEST_FRAME;
-use common::refusals;
+use common::refusals::Refusal;
 use state::{Answer, State};
 
-fn frame_number(s: State, wp: bool, array: &[u8], input: &[u8], output: &[u8], driven: &[u8]) -> u32
-    ensures { result ≡ frame_number wp input.now (device s array.now) (on_line output.now driven.now) }
+#[tactic(auto, unfolding(crate::specs::Call::frame_number))]
+fn check_frame(
+    s: State,
+    wp: bool,
+    array: &[u8],
+    input: &[u8],
+    output: &[u8],
+    driven: &[u8],
+) -> Result<(), Refusal>
+    ensures { number_in result ≡ frame_number wp input.now (device s array.now) (on_line output.now driven.now) }
 {
     if !state::soundness::is_sound(s) {
-        return refusals::STATE_NOT_SOUND;
+        return Err(Refusal::StateNotSound);
     }
     if array.len() != chip::chip_of(s.chip).size as usize {
-        return refusals::WRONG_ARRAY;
+        return Err(Refusal::WrongArray);
     }
-    if (input.len() == 0) | (LONGEST_FRAME < input.len()) {
-        return refusals::WRONG_FRAME;
+    if input.is_empty() || LONGEST_FRAME < input.len() {
+        return Err(Refusal::WrongFrame);
     }
-    if (output.len() != input.len()) | (driven.len() != input.len()) {
-        return refusals::WRONG_OUTPUT;
+    if output.len() != input.len() || driven.len() != input.len() {
+        return Err(Refusal::WrongOutput);
     }
-    0
+    Ok(())
 }
 
 // Run a frame: the bytes between select and deselect.
@@ -39,14 +50,13 @@ pub fn run_frame(
 ) -> Answer
     ensures { FrameRun wp input.now (device s array.old) (on_line output.old driven.old) result.number (device result.state array.new) (on_line output.new driven.new) }
 {
-    let number = frame_number(s, wp, array, input, output, driven);
-    if number != 0 {
-        return state::refuse(number, s);
+    match check_frame(s, wp, array, input, output, driven) {
+        Ok(()) => state::grant(run_accepted(s, wp, array, input, output, driven)),
+        Err(refusal) => state::refuse(refusal.number(), s),
     }
-    state::grant(run_accepted(s, wp, array, input, output, driven))
 }
 
-fn cut_number(
+fn check_cut(
     s: State,
     wp: bool,
     array: &[u8],
@@ -54,18 +64,15 @@ fn cut_number(
     output: &[u8],
     driven: &[u8],
     mask: &[u8],
-) -> u32
-    ensures { result ≡ cut_number wp input.now mask.now (device s array.now) (on_line output.now driven.now) }
+) -> Result<(), Refusal>
+    ensures { number_in result ≡ cut_number wp input.now mask.now (device s array.now) (on_line output.now driven.now) }
 {
-    let number = frame_number(s, wp, array, input, output, driven);
-    if number != 0 {
-        return number;
-    }
+    check_frame(s, wp, array, input, output, driven)?;
     let c = command::understand::command_of(s, wp, input);
     if !takes_mask(c, mask) {
-        return refusals::WRONG_MASK;
+        return Err(Refusal::WrongMask);
     }
-    0
+    Ok(())
 }
 
 // Run a frame whose power is cut, with a mask byte for each array byte it programs or erases, or one for a status write that takes time; then power-up.
@@ -80,9 +87,8 @@ pub fn run_cut_frame(
 ) -> Answer
     ensures { CutRun wp input.now mask.now (device s array.old) (on_line output.old driven.old) result.number (device result.state array.new) (on_line output.new driven.new) }
 {
-    let number = cut_number(s, wp, array, input, output, driven, mask);
-    if number != 0 {
-        return state::refuse(number, s);
+    match check_cut(s, wp, array, input, output, driven, mask) {
+        Ok(()) => state::grant(run_accepted_cut(s, wp, array, input, output, driven, mask)),
+        Err(refusal) => state::refuse(refusal.number(), s),
     }
-    state::grant(run_accepted_cut(s, wp, array, input, output, driven, mask))
 }

@@ -1,7 +1,7 @@
 // A frame interrupted by a power cut: the mask that it wants, and the registers that power-up finds.
 ghost use Rattle.std.specs.Prelude.{◌≡◌};
 ghost use Rattle.command.specs.Fits.{Fits};
-ghost use Rattle.frame.specs.Cut.{status_time, takes_mask, state_cut};
+ghost use Rattle.frame.specs.Cut.{is_status_cycle, takes_mask, state_cut};
 
 use crate::effect_of;
 use command::Command;
@@ -12,13 +12,13 @@ const NEW_BITS: u8 = 0xff;
 
 const OLD_BITS: u8 = 0x00;
 
-// A status write's time, else 0.
-fn status_time(c: Command) -> u32
-    ensures { result ≡ status_time c }
+// A status write that takes time.
+fn is_status_cycle(c: Command) -> bool
+    ensures { result ≡ is_status_cycle c }
 {
     match c {
-        Command::WriteStatus { byte: _, time } => time,
-        _ => 0,
+        Command::WriteStatus { time, .. } => 0 < time,
+        _ => false,
     }
 }
 
@@ -26,21 +26,22 @@ fn status_time(c: Command) -> u32
 pub fn takes_mask(c: Command, mask: &[u8]) -> bool
     ensures { result ≡ takes_mask c mask.now }
 {
-    if 0 < status_time(c) {
-        let byte = common::byte_at(mask, 0);
-        return (mask.len() == 1) & ((byte == OLD_BITS) | (byte == NEW_BITS));
+    if is_status_cycle(c) {
+        return matches!(mask, [OLD_BITS | NEW_BITS]);
     }
     mask.len() == effect::mask_length(effect_of(c))
 }
 
-// The registers that power-up finds.
+// The registers that power-up finds. No struct of state and command: `Fits` goes by the command's cases, so its field would need a proof that it has one
+// proof, and the clauses would say `taken.state` and `taken.command` for s and c.
 pub fn state_cut(s: State, c: Command, mask: &[u8]) -> State
     requires { Fits s c }
     ensures { result ≡ state_cut s c mask.now }
 {
     let t = registers::state_after(s, c);
-    if (0 < status_time(c)) & (common::byte_at(mask, 0) == NEW_BITS) {
-        return state::time::cycle_ended(t);
+    if is_status_cycle(c) && matches!(mask, [NEW_BITS, ..]) {
+        state::time::cycle_ended(t)
+    } else {
+        t
     }
-    t
 }

@@ -16,11 +16,7 @@ fn effect_of(c: Command) -> Effect
     ensures { result ≡ effect_of c }
 {
     match c {
-        Command::Erase {
-            start,
-            count,
-            time: _,
-        } => Effect::Fill { start, count },
+        Command::Erase { start, count, .. } => Effect::Fill { start, count },
         Command::ProgramByte { address } => Effect::Program {
             start: address,
             count: 1,

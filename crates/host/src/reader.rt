@@ -2,18 +2,18 @@
 ghost use Rattle.std.specs.Prelude.{◌≡◌};
 ghost use Rattle.host.specs.Read.{record_of};
 
+use common::refusals::Refusal;
 use script::reader::Found;
 
-// Kinds of answers.
-const REFUSED: u32 = 0;
+// Kinds of answers, by the numbers that C knows.
+enum Kind {
+    Refused = 0,
+    Frame = 1,
+    Wait = 2,
+    End = 3,
+}
 
-const FRAME: u32 = 1;
-
-const WAIT: u32 = 2;
-
-const END: u32 = 3;
-
-// What a kind has no use for is 0; the next offset is the given one for a refusal and the end.
+// No enum: C reads this struct. What a kind has no use for is 0; the next offset is the given one for a refusal and the end.
 #[repr(C)]
 #[derive(Clone, Copy)]
 pub struct Record {
@@ -26,45 +26,45 @@ pub struct Record {
     pub next: usize,
 }
 
-pub fn record_of(found: Found) -> Record
-    ensures { result ≡ record_of found }
+// No From: the offset that the reader was given goes in too.
+pub fn record_of(read: Result<Option<Found>, Refusal>, offset: usize) -> Record
+    ensures { result ≡ record_of offset read }
 {
-    match found {
-        Found::Frame {
+    let empty = Record {
+        number: 0,
+        kind: Kind::End as u32,
+        start: 0,
+        length: 0,
+        microseconds: 0,
+        next: offset,
+    };
+    match read {
+        Ok(
+            Some(
+                Found::Frame {
+                    start,
+                    length,
+                    next,
+                },
+            ),
+        ) => Record {
+            kind: Kind::Frame as u32,
             start,
             length,
             next,
-        } => Record {
-            number: 0,
-            kind: FRAME,
-            start,
-            length,
-            microseconds: 0,
-            next,
+            ..empty
         },
-        Found::Wait { microseconds, next } => Record {
-            number: 0,
-            kind: WAIT,
-            start: 0,
-            length: 0,
+        Ok(Some(Found::Wait { microseconds, next })) => Record {
+            kind: Kind::Wait as u32,
             microseconds,
             next,
+            ..empty
         },
-        Found::End { next } => Record {
-            number: 0,
-            kind: END,
-            start: 0,
-            length: 0,
-            microseconds: 0,
-            next,
-        },
-        Found::Refused { number, next } => Record {
-            number,
-            kind: REFUSED,
-            start: 0,
-            length: 0,
-            microseconds: 0,
-            next,
+        Ok(None) => empty,
+        Err(refusal) => Record {
+            number: refusal.number(),
+            kind: Kind::Refused as u32,
+            ..empty
         },
     }
 }

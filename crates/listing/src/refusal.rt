@@ -8,6 +8,7 @@ use run::carries_offset;
 use text::put_decimals_line;
 
 // The number, and where it carries one the offset of the bad record.
+// No `Refusal`: the answer of a run, which C reads, has the number.
 pub(crate) fn put_refusal(number: u32, offset: usize, text: &mut [u8]) -> usize
     requires number_lt_decimal_end { number < decimal_end }
     requires offset_lt_decimal_end { offset < decimal_end }
@@ -15,8 +16,7 @@ pub(crate) fn put_refusal(number: u32, offset: usize, text: &mut [u8]) -> usize
     ensures { Put 0 (why_refused number offset) text.old text.new result }
 {
     if carries_offset(number) {
-        let place = offset as u32;
-        return put_decimals_line(b'R', &[number, place], text, 0);
+        return put_decimals_line(b'R', &[number, offset as u32], text, 0);
     }
     put_decimals_line(b'R', &[number], text, 0)
 }

@@ -1,5 +1,4 @@
 pub mod Comparing
-pub mod Counted
 pub mod Listed
 pub mod Position
 pub mod Prints

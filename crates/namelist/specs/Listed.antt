@@ -1,7 +1,7 @@
 -- The list of names by position (02, A7): "each behind a length byte".
-use Rattle.std.specs.Prelude.{◌≡◌, Bool, true, false, cond, List, [], ◌∷◌, ◌++◌, ℕ, zero, suc, ◌≤◌, leb, length}
+use Rattle.std.specs.Prelude.{◌≡◌, Bool, true, false, cond, if◌then◌else◌, Option, Some, None, List, [], ◌∷◌, ◌++◌, ℕ, zero, suc, ◌≤◌, leb, length}
 use Rattle.names.specs.Records.{Front, none, item, front_body, AllNames}
-use Rattle.names.specs.Search.{same_bytes}
+use Rattle.names.specs.Search.{same_bytes, is_on}
 
 -- ---- the list, read
 
@@ -58,6 +58,10 @@ count_in (names ns) = length ns
 unfoldable pub position_in : List ℕ → List (List ℕ) → ℕ
 position_in name [] = 0
 position_in name (first ∷ others) = cond (same_bytes name first) 0 (suc (position_in name others))
+
+-- the same as an option: none, where it is none of them
+abbrev pub found_in : List ℕ → List (List ℕ) → Option ℕ
+found_in name ns = if is_on name ns then Some (position_in name ns) else None
 
 -- ---- its bytes
 

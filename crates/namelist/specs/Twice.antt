@@ -1,5 +1,5 @@
 -- A name that stands twice in the list (02, A7), and the prints by which the search for it is cut short.
-use Rattle.std.specs.Prelude.{Bool, false, ◌||◌, List, [], ◌∷◌, ℕ, ◌+◌, ◌*◌, ◌%◌, eqb}
+use Rattle.std.specs.Prelude.{Bool, false, ◌||◌, List, [], ◌∷◌, ℕ, ◌+◌, ◌*◌, ◌%◌}
 use Rattle.names.specs.Search.{is_on}
 
 -- "a name twice in the list"
@@ -20,8 +20,3 @@ print_of name = print_from 0 name
 unfoldable pub prints_of : List (List ℕ) → List ℕ
 prints_of [] = []
 prints_of (name ∷ others) = print_of name ∷ prints_of others
-
--- a print is one of these
-unfoldable pub is_printed : ℕ → List ℕ → Bool
-is_printed print [] = false
-is_printed print (first ∷ others) = eqb first print || is_printed print others

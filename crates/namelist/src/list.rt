@@ -1,60 +1,75 @@
-// The list: its names checked and counted, taken one by one, and searched.
-ghost use Rattle.std.specs.Prelude.{◌≡◌, ◌+◌, ◌≤◌, ◌<◌, length, get_or, take, drop};
-ghost use Rattle.namelist.specs.Listed.{listed, names_in, count_in, position_in, Good};
+// A good list: read, its names taken one by one, counted and searched.
+ghost use Rattle.std.specs.Prelude.{◌≡◌, true, false, MatchOption, length};
+ghost use Rattle.std.specs.Iterator.{YieldsFirstRef, item_count};
+ghost use Rattle.namelist.specs.Listed.{listed, is_bad, names_in, found_in};
 
-use names::name::{is_name, same};
+use names::name::is_name;
 
 pub const MOST_NAMES: usize = 4096;
 
-// What a bad list counts as: more names than a list may have.
-const BAD: usize = 4097;
-
-// The name whose length stands at a place.
-pub fn name_at(list: &[u8], at: usize) -> &[u8]
-    requires { (at < length list.now) × (at + 1 + get_or list.now at 0 ≤ length list.now) }
-    ensures { result.now ≡ take (get_or list.now at 0) (drop (at + 1) list.now) }
-{
-    let start = at + 1;
-    let end = start + common::wide(list[at]) as usize;
-    &list[start..end]
+// The bytes of a list that is not bad.
+#[derive(Clone, Copy)]
+pub struct NameList<'a> {
+    pub bytes: &'a [u8],
+    ghost good: { is_bad (listed bytes.now) ≡ false },
 }
 
-// How many names the list has; a bad one counts as 4,097.
-pub fn count(list: &[u8]) -> usize
-    ensures { result ≡ count_in (listed list.now) }
-{
-    let mut at: usize = 0;
-    let mut names: usize = 0;
-    while at < list.len() {
-        let size = common::wide(list[at]) as usize;
-        // too many, or the last one is cut short
-        if (names == MOST_NAMES) | (list.len() - at <= size) {
-            return BAD;
+impl<'a> NameList<'a> {
+    // None: a bad name, one that is cut short, or too many.
+    pub fn read(list: &'a [u8]) -> Option<NameList<'a>>
+        ensures { MatchOption result (is_bad (listed list.now) ≡ true) (λ names. names.bytes.now ≡ list.now) }
+    {
+        let mut left = list;
+        let mut names: usize = 0;
+        while let Some((length, rest)) = left.split_first() {
+            let (name, others) = rest.split_at_checked(usize::from(*length))?;
+            if names == MOST_NAMES || !is_name(name) {
+                return None;
+            }
+            names += 1;
+            left = others;
         }
-        let name = name_at(list, at);
-        if !is_name(name) {
-            return BAD;
-        }
-        names += 1;
-        at += 1 + size;
+        Some(NameList { bytes: list })
     }
-    names
+
+    pub fn iter(&self) -> NamesLeft<'a>
+        ensures { names_in (listed result.left.now) ≡ names_in (listed self.now.bytes.now) }
+    {
+        NamesLeft { left: self.bytes }
+    }
+
+    pub fn count(&self) -> usize
+        ensures { result ≡ length (names_in (listed self.now.bytes.now)) }
+    {
+        self.iter().count()
+    }
+
+    // The position of a name, if it is one of them.
+    pub fn position_of(&self, name: &[u8]) -> Option<usize>
+        ensures { result ≡ found_in name.now (names_in (listed self.now.bytes.now)) }
+    {
+        self.iter().position(|other| name == other)
+    }
 }
 
-// The position of a name; how many names there are, where it is none of them.
-pub fn position_of(list: &[u8], name: &[u8]) -> usize
-    requires { Good list.now }
-    ensures { result ≡ position_in name.now (names_in (listed list.now)) }
-{
-    let mut at: usize = 0;
-    let mut position: usize = 0;
-    while at < list.len() {
-        let other = name_at(list, at);
-        if same(name, other) {
-            return position;
-        }
-        position += 1;
-        at += 1 + other.len();
+// The names of a list that are left.
+#[derive(Clone, Copy)]
+pub struct NamesLeft<'a> {
+    left: &'a [u8],
+    ghost good: { is_bad (listed left.now) ≡ false },
+}
+
+impl<'a> Iterator for NamesLeft<'a> {
+    type Item = &'a [u8];
+
+    ghost next_gives = { YieldsFirstRef (λ names. names_in (listed names.left.now)) };
+
+    ghost remaining = { item_count (λ names. names_in (listed names.left.now)) };
+
+    fn next(&mut self) -> Option<&'a [u8]> {
+        let (length, rest) = self.left.split_first()?;
+        let (name, others) = rest.split_at(usize::from(*length));
+        self.left = others;
+        Some(name)
     }
-    position
 }

@@ -1,55 +1,44 @@
 // Whether a name stands twice in the list. Every pair would have to be compared, so a print of each name is kept, and the names are compared only
 // where one of the earlier prints is the same.
-ghost use Rattle.std.specs.Prelude.{◌≡◌};
-ghost use Rattle.namelist.specs.Listed.{listed, names_in, Good};
-ghost use Rattle.namelist.specs.Twice.{is_twice, print_of, is_printed};
+ghost use Rattle.std.specs.Prelude.{◌≡◌, take};
+ghost use Rattle.names.specs.Search.{is_on};
+ghost use Rattle.namelist.specs.Listed.{listed, names_in};
+ghost use Rattle.namelist.specs.Twice.{is_twice, print_of};
 
-use super::list::{MOST_NAMES, name_at, position_of};
+use crate::list::{MOST_NAMES, NameList};
 
 fn print_of(name: &[u8]) -> u32
     ensures { result ≡ print_of name.now }
 {
+    // No `fold`: its closure would not know that the print so far is small.
     let mut print: u32 = 0;
-    let mut i: usize = 0;
-    while i < name.len() {
+    for byte in name {
         // kept below 2^24, so that the next product fits
-        print = (print * 251 + common::wide(name[i])) % 16777216;
-        i += 1;
+        print = (print * 251 + u32::from(*byte)) % 16777216;
     }
     print
 }
 
-// Whether a print is one of these. All are looked at, found or not: without a way out the loop takes several a turn.
-fn has_print(prints: &[u32], print: u32) -> bool
-    ensures { result ≡ is_printed print prints.now }
-{
-    let mut found = false;
-    let mut i: usize = 0;
-    while i < prints.len() {
-        found = found | (prints[i] == print);
-        i += 1;
+impl NameList<'_> {
+    // Whether a name is one of the first so many.
+    fn is_among(&self, count: usize, name: &[u8]) -> bool
+        ensures { result ≡ is_on name.now (take count (names_in (listed self.now.bytes.now))) }
+    {
+        self.iter().take(count).any(|other| name == other)
     }
-    found
-}
 
-pub fn has_twice(list: &[u8]) -> bool
-    requires { Good list.now }
-    ensures { result ≡ is_twice (names_in (listed list.now)) }
-{
-    let mut prints = [0u32; MOST_NAMES];
-    let mut at: usize = 0;
-    let mut names: usize = 0;
-    while at < list.len() {
-        let name = name_at(list, at);
-        let print = print_of(name);
-        if has_print(&prints[..names], print) {
-            if position_of(&list[..at], name) < names {
+    pub fn has_twice(&self) -> bool
+        ensures { result ≡ is_twice (names_in (listed self.now.bytes.now)) }
+    {
+        // No Vec: there is no heap.
+        let mut prints = [0u32; MOST_NAMES];
+        for (count, name) in self.iter().enumerate() {
+            let print = print_of(name);
+            if prints[..count].contains(&print) && self.is_among(count, name) {
                 return true;
             }
+            prints[count] = print;
         }
-        prints[names] = print;
-        names += 1;
-        at += 1 + name.len();
+        false
     }
-    false
 }

@@ -1,5 +1,5 @@
 -- Records of names in a sector (02, A7).
-use Rattle.std.specs.Prelude.{◌≡◌, Bool, true, cond, ◌&&◌, List, [], ◌∷◌, ◌++◌, ℕ, zero, suc, ◌+◌, ◌-◌, eqb, leb, length, take, drop, replicate}
+use Rattle.std.specs.Prelude.{◌≡◌, Bool, true, Option, Some, None, cond, ◌&&◌, List, [], ◌∷◌, ◌++◌, ℕ, zero, suc, ◌+◌, ◌-◌, eqb, leb, length, take, drop, replicate}
 use Rattle.common.specs.Lists.{Each}
 
 -- ---- a name
@@ -36,10 +36,10 @@ front (first ∷ []) = none
 front (first ∷ second ∷ []) = none
 front (first ∷ second ∷ n ∷ rest) = cond (eqb first 0x4e && eqb second 0x52) (front_body n rest) none
 
--- how long the record is; 0, which no record is, where there is none
-abbrev pub front_length : Front → ℕ
-front_length none = 0
-front_length (item name rest) = 3 + length name
+-- how long the record is, if there is one
+abbrev pub front_length : Front → Option ℕ
+front_length none = None
+front_length (item name rest) = Some (3 + length name)
 
 -- ---- record after record
 

@@ -1,7 +1,6 @@
 -- A name among others (02, A7): "A scene is read if a record has its name."
-use Rattle.std.specs.Prelude.{◌≡◌, Bool, true, false, ◌&&◌, ◌||◌, List, [], ◌∷◌, ℕ, eqb, length}
-use Rattle.names.specs.Records.{names_of, records_bytes}
-use Rattle.names.specs.declared.search.Search.{Search}
+use Rattle.std.specs.Prelude.{◌≡◌, Bool, true, false, ◌&&◌, ◌||◌, Result, Ok, Err, List, [], ◌∷◌, ℕ, ◌+◌, eqb, length, take, drop}
+use Rattle.names.specs.Records.{names_of, record_bytes, records_bytes}
 
 -- byte for byte the same
 unfoldable pub same_bytes : List ℕ → List ℕ → Bool
@@ -15,8 +14,9 @@ unfoldable pub is_on : List ℕ → List (List ℕ) → Bool
 is_on name [] = false
 is_on name (first ∷ others) = same_bytes name first || is_on name others
 
--- the records of some bytes, searched for a name
-pub record Searched (bytes name : List ℕ) (r : Search) : Type 0 where
-  pub found_is : r.found ≡ is_on name (names_of bytes)
-  -- where none has it: how long they are, so where the next would begin
-  pub end_is : r.found ≡ false → r.end ≡ length (records_bytes true (names_of bytes))
+-- the records of some bytes, searched for a name: where one begins that has it, or how long they are, so where the next would begin
+abbrev pub Searched : List ℕ → List ℕ → Result ℕ ℕ → Type 0
+Searched bytes name (Ok at) =
+    (is_on name (names_of bytes) ≡ true) × (take (3 + length name) (drop at bytes) ≡ record_bytes true name)
+Searched bytes name (Err end) =
+    (is_on name (names_of bytes) ≡ false) × (end ≡ length (records_bytes true (names_of bytes)))

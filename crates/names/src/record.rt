@@ -5,6 +5,7 @@ ghost use Rattle.names.specs.Records.{front, front_length, record_bytes};
 
 use super::name::is_name;
 use common::buffer::put;
+use common::limits::ERASED;
 
 // A record begins with these two bytes;
 const FIRST_MARK: u8 = 0x4e;
@@ -14,36 +15,16 @@ const SECOND_MARK: u8 = 0x52;
 // with the name's length they stand before the name.
 pub const HEAD: usize = 3;
 
-const ERASED: u8 = 0xff;
-
-// How long the record at a place is; 0, which no record is, where no whole good one stands there.
-pub fn record_at(bytes: &[u8], at: usize) -> usize
+// How long the record at a place is, if a whole good one stands there.
+pub fn record_at(bytes: &[u8], at: usize) -> Option<usize>
     requires { at ≤ length bytes.now }
     ensures { result ≡ front_length (front (drop at bytes.now)) }
 {
-    // most places fail at their first byte, so that is asked first
-    if at == bytes.len() {
-        return 0;
-    }
-    if bytes[at] != FIRST_MARK {
-        return 0;
-    }
-    if bytes.len() - at < HEAD {
-        return 0;
-    }
-    if bytes[at + 1] != SECOND_MARK {
-        return 0;
-    }
-    let start = at + HEAD;
-    let length = common::wide(bytes[at + 2]) as usize;
-    if bytes.len() - start < length {
-        return 0;
-    }
-    let end = start + length;
-    if !is_name(&bytes[start..end]) {
-        return 0;
-    }
-    HEAD + length
+    let [FIRST_MARK, SECOND_MARK, length, rest @ ..] = &bytes[at..] else {
+        return None;
+    };
+    let name = rest.get(..usize::from(*length))?;
+    is_name(name).then_some(HEAD + name.len())
 }
 
 fn marked_or_erased(marked: bool, byte: u8) -> u8

@@ -1,34 +1,20 @@
 // The records of a sector, searched for a name.
 ghost use Rattle.names.specs.Search.{Searched};
 
-use super::name::same;
 use super::record::{HEAD, record_at};
 
-// Whether a record has the name; if none has, the place where the records end.
-#[derive(Clone, Copy)]
-pub struct Search {
-    pub found: bool,
-    pub end: usize,
-}
-
-pub fn find(bytes: &[u8], name: &[u8]) -> Search
+// Where the record begins that has the name; if none has, where the records end.
+pub fn find(bytes: &[u8], name: &[u8]) -> Result<usize, usize>
     ensures { Searched bytes.now name.now result }
 {
     let mut at: usize = 0;
-    let mut size = record_at(bytes, at);
-    while size != 0 {
-        let start = at + HEAD;
-        at += size;
-        if same(name, &bytes[start..at]) {
-            return Search {
-                found: true,
-                end: at,
-            };
+    while let Some(size) = record_at(bytes, at) {
+        let end = at + size;
+        let other = &bytes[at + HEAD..end];
+        if name == other {
+            return Ok(at);
         }
-        size = record_at(bytes, at);
+        at = end;
     }
-    Search {
-        found: false,
-        end: at,
-    }
+    Err(at)
 }

@@ -1,4 +1,5 @@
-// The output: what the chip shows, byte by byte, and which of the bytes it drives.
+// The output: what the chip shows, byte by byte, and which of the bytes it drives. What it shows is `Some` byte that it drives, or `None`, where it is
+// silent. A driven FF is not a silent byte, though both read FF.
 #![tactic(auto)]
 
 ghost use Rattle.std.specs.Prelude.{◌≡◌, ℕ, ◌<◌, ◌≤◌, length};
@@ -12,41 +13,28 @@ ghost use Rattle.command.specs.Fits.{Fits};
 use command::Command;
 use state::State;
 
-// What the chip does with the line for one byte. A driven FF is not a silent byte, though both read FF.
-#[derive(Clone, Copy)]
-pub enum Shown {
-    Silent,
-    Driven(u8),
-}
-
 // The byte that is read: a silent line is pulled up.
-fn byte_of(shown: Shown) -> u8
+fn byte_of(shown: Option<u8>) -> u8
     ensures { result ≡ byte_of shown }
 {
-    match shown {
-        Shown::Silent => 0xff,
-        Shown::Driven(byte) => byte,
-    }
+    shown.unwrap_or(0xff)
 }
 
 // 01 where the chip drove it, else 00.
-fn driven_of(shown: Shown) -> u8
+fn driven_of(shown: Option<u8>) -> u8
     ensures { result ≡ driven_of shown }
 {
-    match shown {
-        Shown::Silent => 0,
-        Shown::Driven(_) => 1,
-    }
+    u8::from(shown.is_some())
 }
 
-fn jedec_byte(family: u8, capacity: u8, i: usize) -> Shown
+fn jedec_byte(family: u8, capacity: u8, i: usize) -> Option<u8>
     ensures { result ≡ jedec family capacity i }
 {
     match i {
-        1 => Shown::Driven(0x8c),
-        2 => Shown::Driven(family),
-        3 => Shown::Driven(capacity),
-        _ => Shown::Silent, // from byte 4 on
+        1 => Some(0x8c),
+        2 => Some(family),
+        3 => Some(capacity),
+        _ => None, // from byte 4 on
     }
 }
 
@@ -61,16 +49,18 @@ fn identity_byte(device: u8, odd: bool, i: usize) -> u8
 }
 
 // Byte i of a command that does not read the array. The chip's data is fetched in the arms that use it.
-fn shown_at(s: State, c: Command, i: usize) -> Shown
+#[tactic(auto, unfolding(crate::specs::Output::shown_at))]
+fn shown_at(s: State, c: Command, i: usize) -> Option<u8>
     requires { NoRead c }
     ensures { (m : ℕ → ℕ) → result ≡ shown_at s c m i }
 {
     match c {
         Command::ReadStatus => {
             if i < 1 {
-                return Shown::Silent;
+                None
+            } else {
+                Some(state::status::status_of(s))
             }
-            Shown::Driven(state::status::status_of(s))
         }
         Command::ReadJedec => {
             let chip = chip::chip_of(s.chip);
@@ -79,17 +69,19 @@ fn shown_at(s: State, c: Command, i: usize) -> Shown
         Command::ReadSignature => {
             let chip = chip::chip_of(s.chip);
             if i < chip.preamble as usize {
-                return Shown::Silent;
+                None
+            } else {
+                Some(chip.signature)
             }
-            Shown::Driven(chip.signature)
         }
         Command::ReadIdentity(odd) => {
             if i < 4 {
-                return Shown::Silent;
+                None
+            } else {
+                Some(identity_byte(chip::chip_of(s.chip).device_id, odd, i))
             }
-            Shown::Driven(identity_byte(chip::chip_of(s.chip).device_id, odd, i))
         }
-        _ => Shown::Silent, // no other command reads
+        _ => None, // no other command reads
     }
 }
 
@@ -100,9 +92,7 @@ fn changing(c: Command, count: usize) -> usize
 {
     match c {
         Command::ReadIdentity(_) => count,
-        Command::ReadStatus | Command::ReadJedec | Command::ReadSignature => {
-            common::smaller(4, count)
-        }
+        Command::ReadStatus | Command::ReadJedec | Command::ReadSignature => count.min(4),
         _ => 0,
     }
 }
@@ -114,18 +104,14 @@ fn show_each(s: State, c: Command, output: &mut [u8], driven: &mut [u8])
 {
     let count = output.len();
     let to = changing(c, count);
-    let mut i: usize = 0;
-    loop {
+    for i in 0..to {
         let shown = shown_at(s, c, i);
-        if i == to {
-            common::runs::fill_run(output, to, count, byte_of(shown));
-            common::runs::fill_run(driven, to, count, driven_of(shown));
-            return;
-        }
         output[i] = byte_of(shown);
         driven[i] = driven_of(shown);
-        i += 1;
     }
+    let rest = shown_at(s, c, to);
+    common::runs::fill_run(output, to, count, byte_of(rest));
+    common::runs::fill_run(driven, to, count, driven_of(rest));
 }
 
 // The array from an address up, after `at` silent bytes: to the top in one run, and on from address 0 in another.
@@ -136,9 +122,9 @@ fn show_array(from: u32, at: u8, array: &[u8], output: &mut [u8])
     let size = array.len();
     let count = output.len();
     let start = from as usize;
-    let head = common::smaller(at as usize, count);
+    let head = (at as usize).min(count);
     common::runs::fill_run(output, 0, head, 0xff);
-    let top = head + common::smaller(count - head, size - start);
+    let top = head + (count - head).min(size - start);
     common::runs::copy_run(output, head, top, array, start);
     common::runs::copy_run(output, top, count, array, 0);
 }
@@ -148,12 +134,13 @@ fn drive_since(at: u8, driven: &mut [u8])
     ensures { (bytes : ℕ → ℕ) → driven.new ≡ tab (length driven.old) (λ i. driven_of (since at i (bytes i))) }
 {
     let count = driven.len();
-    let head = common::smaller(at as usize, count);
+    let head = (at as usize).min(count);
     common::runs::fill_run(driven, 0, head, 0);
     common::runs::fill_run(driven, head, count, 1);
 }
 
-// What a command shows, in both slices.
+// What a command shows, in both slices, which C lends apart. No struct of state and command: `Fits` goes by the command's cases, so its field would need
+// a proof that it has one proof, and the clauses would say `taken.state` and `taken.command` for s and c.
 pub fn emit(s: State, c: Command, array: &[u8], output: &mut [u8], driven: &mut [u8])
     requires { Fits s c × (length array.now ≡ (data_of s).size) × (length output.old ≤ longest_frame) × (length driven.old ≡ length output.old) }
     ensures output_after { output.new ≡ tab (length output.old) (λ i. byte_of (shown_at s c (memory array.now) i)) }
@@ -164,8 +151,6 @@ pub fn emit(s: State, c: Command, array: &[u8], output: &mut [u8], driven: &mut 
             show_array(from, at, array, output);
             drive_since(at, driven);
         }
-        _ => {
-            show_each(s, c, output, driven);
-        }
+        _ => show_each(s, c, output, driven),
     }
 }

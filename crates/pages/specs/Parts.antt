@@ -1,7 +1,7 @@
 -- Step 3 as the code goes (ours): the part of a page found by looking at its bytes, and what is counted on the way.
 use Rattle.std.specs.Prelude.{◌≡◌, Bool, true, false, List, ℕ, zero, suc, ◌+◌, ◌-◌, ◌≤◌, ◌<◌, ltb, length}
 use Rattle.common.specs.Bits.{bit}
-use Rattle.pages.specs.declared.Part.{Part}
+use Rattle.std.specs.declared.ops.Range.{Range}
 use Rattle.pages.specs.Pages.{before_first, part_length}
 
 -- how many of n pages have a changing byte, and how many bytes of them are sent
@@ -28,14 +28,14 @@ pub record Behind (d : ℕ → Bool) (from to r : ℕ) : Type 0 where
   pub here : from < r → d (r - 1) ≡ true
 
 -- a part of the region, of a page at most
-pub record PartIn (start : ℕ) (wanted : List ℕ) (part : Part) : Type 0 where
-  pub low : start ≤ part.from
-  pub forth : part.from ≤ part.to
-  pub high : part.to ≤ start + length wanted
-  pub short : part.to ≤ part.from + 256
+pub record PartIn (start : ℕ) (wanted : List ℕ) (part : Range ℕ) : Type 0 where
+  pub low : start ≤ part.start
+  pub forth : part.start ≤ part.end
+  pub high : part.end ≤ start + length wanted
+  pub short : part.end ≤ part.start + 256
 
 -- the part of a page that step 3 sends
-pub record PagePart (d : ℕ → Bool) (start : ℕ) (wanted : List ℕ) (page : ℕ) (part : Part) : Type 0 where
+pub record PagePart (d : ℕ → Bool) (start : ℕ) (wanted : List ℕ) (page : ℕ) (part : Range ℕ) : Type 0 where
   pub inside : PartIn start wanted part
-  pub long : part.to - part.from ≡ part_length d page
-  pub first : part.from < part.to → part.from ≡ page + before_first d 256 page
+  pub long : part.end - part.start ≡ part_length d page
+  pub first : part.start < part.end → part.start ≡ page + before_first d 256 page

@@ -2,28 +2,22 @@
 ghost use Rattle.std.specs.Prelude.{◌≡◌, cond, ◌+◌, ◌≤◌, length};
 ghost use Rattle.script.specs.Record.{encode};
 ghost use Rattle.state.specs.State.{data_of};
-ghost use Rattle.region.specs.Region.{Inside};
 ghost use Rattle.common.specs.Buffer.{Put};
 ghost use Rattle.common.specs.Limits.{longest_script};
 ghost use Rattle.plan.specs.Plan.{step_one_needed, status_byte, status_step, wait_bytes, with_status_steps};
 
+use region::Update;
 use script::measure::Measure;
 use state::State;
 
-// Whether a byte that changes is protected.
-pub fn step_one_needed(s: State, array: &[u8], start: usize, wanted: &[u8]) -> bool
-    requires { Inside array.now start wanted.now }
-    ensures { result ≡ step_one_needed s array.now start wanted.now }
+// Whether a byte that changes is protected: whether the protected part of the region is not yet as wanted.
+pub fn step_one_needed(s: State, update: &Update) -> bool
+    ensures { result ≡ step_one_needed s update.now.array.now update.now.start update.now.wanted.now }
 {
     let first = state::protection::first_protected(s) as usize;
-    let mut i: usize = 0;
-    while i < wanted.len() {
-        if (array[start + i] != wanted[i]) & (first <= start + i) {
-            return true;
-        }
-        i += 1;
-    }
-    false
+    let end = update.end();
+    let from = first.max(update.start).min(end);
+    update.array[from..end] != update.wanted[from - update.start..]
 }
 
 // The frame before a status write.
@@ -41,7 +35,7 @@ fn status_byte(bp: u8, tb: bool, bpl: bool) -> u8
     requires { bp ≤ 7 }
     ensures { result ≡ status_byte bp tb bpl }
 {
-    bp * 4 + (tb as u8) * 32 + (bpl as u8) * 128
+    bp * 4 + u8::from(tb) * 32 + u8::from(bpl) * 128
 }
 
 pub fn put_status(needed: bool, s: State, bp: u8, buffer: &mut [u8], at: usize) -> usize

@@ -1,11 +1,9 @@
 // Runs a script from standard input on a new, erased F25L05PA and prints what the chip showed (01, program `play`).
 #![tactic(auto)]
 
-ghost use Rattle.std.specs.Prelude.{◌≡◌, ◌+◌, ◌<◌, IfOk, length, take};
+ghost use Rattle.std.specs.Prelude.{◌<◌, IfOk, length, take};
 ghost use Rattle.std.specs.Io.{ReadsAtMost};
 ghost use Rattle.std.specs.Io.KnownBytes.{Consumes, IsAtEnd};
-ghost use Rattle.common.specs.Limits.{longest_script};
-ghost use Rattle.listing.specs.Listing.{longest_listing};
 
 use common::limits::LONGEST_SCRIPT;
 use listing::LONGEST_LISTING;
@@ -13,19 +11,10 @@ use std::io;
 use std::io::{Read, Write};
 
 // One byte more than the longest script has, so that a longer one is seen.
-fn script_room() -> [u8; LONGEST_SCRIPT + 1]
-    ensures { longest_script + 1 ≡ length result }
-{
-    [0; LONGEST_SCRIPT + 1]
-}
-
-fn text_room() -> [u8; LONGEST_LISTING]
-    ensures { longest_listing ≡ length result }
-{
-    [0; LONGEST_LISTING]
-}
+const SCRIPT_ROOM: usize = LONGEST_SCRIPT + 1;
 
 // Read until the room is full or the input ends; gives how many bytes came.
+// Nothing of std does that: `read_exact` fails on a shorter input, `read_to_end` needs the heap, `io::copy` tries an interrupted read again.
 fn read_full<R: Read>(input: &mut R, room: &mut [u8]) -> io::Result<usize>
     ensures bound { ReadsAtMost result room.new }
     ensures bytes { IfOk result (λ n. Consumes (R.remaining input.old) (R.remaining input.new) (take n room.new)) }
@@ -43,9 +32,9 @@ fn read_full<R: Read>(input: &mut R, room: &mut [u8]) -> io::Result<usize>
 }
 
 fn main(rt: HostRuntime) -> io::Result<()> {
-    let mut script = script_room();
+    let mut script = [0; SCRIPT_ROOM];
     let n = read_full(&mut rt.stdin(), &mut script)?;
-    let mut text = text_room();
+    let mut text = [0; LONGEST_LISTING];
     let length = listing::listing(&script[..n], &mut text);
     rt.stdout().write_all(&text[..length])
 }

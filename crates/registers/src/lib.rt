@@ -9,6 +9,8 @@ use command::Command;
 use state::State;
 
 // "Every taken frame clears armed too, but WREN and EWSR, which set it."
+// No struct of state and command: `Fits` goes by the command's cases, and each clause would say `taken.state`, `taken.command`.
+#[tactic(auto, unfolding(crate::specs::Registers::state_after))]
 pub fn state_after(s: State, c: Command) -> State
     requires { Fits s c }
     ensures { result ≡ state_after s c }
@@ -47,10 +49,10 @@ pub fn state_after(s: State, c: Command) -> State
         Command::Sleep => t.power_down = true,
         Command::ReadSignature => t.power_down = false,
         Command::Ignored => {}
-        Command::ReadStatus => {}
-        Command::ReadArray { .. } => {}
-        Command::ReadJedec => {}
-        Command::ReadIdentity(_) => {}
+        Command::ReadStatus
+        | Command::ReadArray { .. }
+        | Command::ReadJedec
+        | Command::ReadIdentity(_) => {}
     }
     t
 }

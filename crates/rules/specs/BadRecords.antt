@@ -3,14 +3,13 @@ use Rattle.std.specs.Prelude.{◌≡◌, Bool, List, [], ◌∷◌, ◌⊎◌, �
 use Rattle.common.specs.Lists.{Each}
 use Rattle.script.specs.Record.{Record, encode, output_length}
 use Rattle.script.specs.Survey.{survey_of}
-use Rattle.script.specs.declared.reader.Found.TheVariants.{Refused}
 use Rattle.script.specs.Answers.{number_of}
 use Rattle.script.specs.Reader.{record_at}
 use Rattle.frame.specs.Device.{Device}
 use Rattle.frame.specs.Line.{Line}
 use Rattle.run.specs.declared.Ran.{Ran}
 use Rattle.run.specs.Script.{ScriptRun}
-use Rattle.rules.specs.Scripts.{Writable}
+use Rattle.rules.specs.Scripts.{Writable, RefusedWith}
 use Rattle.rules.specs.Running.{Counted}
 use Rattle.rules.specs.Conditions.{NotSound, WrongArray, BothLong, ScriptTooLong}
 use Rattle.rules.specs.Numbered.{Check, ◌when◌, FirstIs, Numbered}
@@ -105,7 +104,7 @@ pub record SurveyRules (script : List ℕ) : Type 0 where
   pub counts : (survey_of script).number ≡ 0 → CountedScript script (survey_of script).frames (survey_of script).microseconds (survey_of script).output
   -- the reader says the same of the record there
   pub read_there : Carries (survey_of script).number
-      → record_at script (survey_of script).offset ≡ Refused (survey_of script).number (survey_of script).offset
+      → RefusedWith (survey_of script).number (survey_of script).offset (record_at script (survey_of script).offset)
   -- run, a script that is accepted here is refused for what is not in it alone
   pub then_run : (wp : Bool) (d : Device) (line : Line) (ran : Ran) (after : Device) (line_after : Line)
       → (survey_of script).number ≡ 0 → ScriptRun wp script d line ran after line_after

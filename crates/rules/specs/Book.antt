@@ -1,5 +1,5 @@
 -- The game's own flag book (02, A2), sentence by sentence, of what its calls answer and of what their scripts leave, run by the calls.
-use Rattle.std.specs.Prelude.{◌≡◌, Bool, List, [], ◌∷◌, ◌⊎◌, ℕ, ◌+◌, ◌/◌, ◌%◌, ◌≤◌, ◌<◌, eqb, length, get_or, take}
+use Rattle.std.specs.Prelude.{◌≡◌, Bool, List, [], ◌∷◌, ◌⊎◌, ℕ, ◌+◌, ◌/◌, ◌%◌, ◌≤◌, ◌<◌, eqb, length, get_or, take, None, Ok}
 use Rattle.common.specs.Bits.{Bytes, bit_at}
 use Rattle.common.specs.Lists.{count_below}
 use Rattle.common.specs.Refusals.{Exactly}
@@ -8,7 +8,6 @@ use Rattle.state.specs.declared.Planned.{Planned}
 use Rattle.state.specs.declared.Told.{Told}
 use Rattle.frame.specs.Device.{Device}
 use Rattle.frame.specs.Line.{Line}
-use Rattle.script.specs.declared.reader.Found.TheVariants.{End}
 use Rattle.script.specs.Reader.{record_at}
 use Rattle.run.specs.declared.Ran.{Ran}
 use Rattle.run.specs.Script.{ScriptRun}
@@ -96,7 +95,7 @@ pub record BookCut (sector : ℕ) (scenes before after : List ℕ) : Type 0 wher
 -- an accepted marking for a chip, and its script
 pub record MarkingRules (wp : Bool) (chip : Device) (sector : ℕ) (scenes : List ℕ) (room : ℕ) (script : List ℕ) : Type 0 where
   -- sent record by record, or run by the call
-  pub sent : (at next : ℕ) (met : Device) → SentTo wp script chip at met → record_at script at ≡ End next → BookMarked sector scenes chip.array met.array
+  pub sent : (at : ℕ) (met : Device) → SentTo wp script chip at met → record_at script at ≡ Ok None → BookMarked sector scenes chip.array met.array
   pub run : (line : Line) (ran : Ran) (after : Device) (shown : Line) → ScriptRun wp script chip line ran after shown → ran.number ≡ 0
       → BookMarked sector scenes chip.array after.array
   pub cut : (lost : Device) → CutAt wp script chip lost → BookCut sector scenes chip.array lost.array
@@ -105,9 +104,9 @@ pub record MarkingRules (wp : Bool) (chip : Device) (sector : ℕ) (scenes : Lis
       → Marks lost.state wp lost.array sector scenes buffer after planned → room + 22 ≤ length buffer → planned.number ≡ 0
   pub again_in_worst : (lost : Device) (buffer after : List ℕ) (planned : Planned) → CutAt wp script chip lost
       → Marks lost.state wp lost.array sector scenes buffer after planned → worst_bytes lost.state.chip ≤ length buffer → planned.number ≡ 0
-  pub finishes : (lost : Device) (buffer after : List ℕ) (planned : Planned) (at next : ℕ) (met : Device) → CutAt wp script chip lost
+  pub finishes : (lost : Device) (buffer after : List ℕ) (planned : Planned) (at : ℕ) (met : Device) → CutAt wp script chip lost
       → Marks lost.state wp lost.array sector scenes buffer after planned → planned.number ≡ 0
-      → SentTo wp (take planned.length after) lost at met → record_at (take planned.length after) at ≡ End next
+      → SentTo wp (take planned.length after) lost at met → record_at (take planned.length after) at ≡ Ok None
       → BookMarked sector scenes chip.array met.array
 
 -- ---- all of it

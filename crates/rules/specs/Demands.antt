@@ -1,7 +1,7 @@
 -- Read this page first, from its last record up: what the user demands (00), in his words, the sample sessions (01), and what was asked for since (02).
 -- `demands_met` (proofs/Laws/Demands.antt) is a value of `Demands`, made of the theorems themselves: where one of them is lost or says less, that value
 -- no longer checks.
-use Rattle.std.specs.Prelude.{◌≡◌, Bool, true, false, List, ℕ, ◌+◌, ◌≤◌, ◌<◌, length, take, drop}
+use Rattle.std.specs.Prelude.{◌≡◌, Bool, true, false, List, ℕ, ◌+◌, ◌≤◌, ◌<◌, length, take, drop, Option, Some, None, Ok}
 use Rattle.common.specs.Bits.{Bytes}
 use Rattle.common.specs.Lists.{Each}
 use Rattle.state.specs.declared.State.{State}
@@ -9,11 +9,10 @@ use Rattle.state.specs.declared.Answer.{Answer}
 use Rattle.state.specs.Soundness.{is_sound}
 use Rattle.state.specs.Power.{new_chip, power_up}
 use Rattle.state.specs.Time.{pass_time}
-use Rattle.output.specs.declared.Shown.{Shown}
 use Rattle.frame.specs.Device.{Device}
 use Rattle.frame.specs.Line.{Line}
 use Rattle.frame.specs.Call.{frame_number, cut_number, FrameRun, CutRun}
-use Rattle.script.specs.declared.reader.Found.TheVariants.{Frame, End}
+use Rattle.script.specs.declared.reader.Found.TheVariants.{Frame}
 use Rattle.script.specs.declared.survey.Surveyed.{Surveyed}
 use Rattle.script.specs.Survey.{survey_of}
 use Rattle.script.specs.Answers.{number_of}
@@ -152,9 +151,9 @@ pub record FrameAsIn01 (wp : Bool) (f : List ℕ) (d : Device) (line : Line) : T
   -- no frame is left without a rule
   pub ruled : Ruled f d
   -- and of an interrupted one, from what the whole one does; that of a status write that takes time is in `status_write` below
-  pub interrupted : begins_cycle wp f d ≡ false → (shows : ℕ → Shown) (registers : State) (change : Change) → Does wp f d line shows registers change
+  pub interrupted : begins_cycle wp f d ≡ false → (shows : ℕ → Option ℕ) (registers : State) (change : Change) → Does wp f d line shows registers change
       → (mask : List ℕ) → Bytes mask → cut_number wp f mask d line ≡ 0 → Interrupted wp f mask d line shows registers change
-  pub wrong_mask_lem : begins_cycle wp f d ≡ false → (shows : ℕ → Shown) (registers : State) (change : Change) → Does wp f d line shows registers change
+  pub wrong_mask_lem : begins_cycle wp f d ≡ false → (shows : ℕ → Option ℕ) (registers : State) (change : Change) → Does wp f d line shows registers change
       → (mask : List ℕ) → (length mask ≡ mask_needed change d → ⊥) → cut_number wp f mask d line ≡ 5
 
 -- "The planner's script is exactly the one 01 describes, and running it does just what its records say."
@@ -175,7 +174,7 @@ pub record ScriptsAsIn01 : Type 0 where
 pub record NoCutHurts (wp : Bool) (chip : Device) (start : ℕ) (wanted : List ℕ) (room : ℕ) (script : List ℕ) : Type 0 where
   -- no call on the way is refused
   pub each_read : (at : ℕ) (met : Device) → SentTo wp script chip at met → number_of (record_at script at) ≡ 0
-  pub each_accepted : (at begin n next : ℕ) (met : Device) (line : Line) → SentTo wp script chip at met → record_at script at ≡ Frame begin n next
+  pub each_accepted : (at begin n next : ℕ) (met : Device) (line : Line) → SentTo wp script chip at met → record_at script at ≡ Ok (Some (Frame begin n next))
       → BothLong line n → frame_number wp (take n (drop begin script)) met line ≡ 0
   -- "Cut the power between any two records, or inside any programming, with any part of the bits due to fall having fallen. Then each bit of the region
   -- is as before or as wanted, and nothing outside has moved."
@@ -184,12 +183,12 @@ pub record NoCutHurts (wp : Bool) (chip : Device) (start : ℕ) (wanted : List �
   pub again : (lost : Device) (buffer after : List ℕ) (planned : Planned) → CutAt wp script chip lost → room + 22 ≤ length buffer
       → PlanUpdated lost.state wp lost.array start wanted buffer after planned → planned.number ≡ 0
   -- and that plan, run uncut, leaves the region exactly as wanted and the rest as it was."
-  pub finished : (lost : Device) (buffer after : List ℕ) (planned : Planned) (at next : ℕ) (met : Device) → CutAt wp script chip lost
+  pub finished : (lost : Device) (buffer after : List ℕ) (planned : Planned) (at : ℕ) (met : Device) → CutAt wp script chip lost
       → PlanUpdated lost.state wp lost.array start wanted buffer after planned → planned.number ≡ 0
-      → SentTo wp (take planned.length after) lost at met → record_at (take planned.length after) at ≡ End next
+      → SentTo wp (take planned.length after) lost at met → record_at (take planned.length after) at ≡ Ok None
       → met.array ≡ updated chip.array start wanted
   -- "An uncut first run does so too": record by record,
-  pub uncut : (at next : ℕ) (met : Device) → SentTo wp script chip at met → record_at script at ≡ End next → met.array ≡ updated chip.array start wanted
+  pub uncut : (at : ℕ) (met : Device) → SentTo wp script chip at met → record_at script at ≡ Ok None → met.array ≡ updated chip.array start wanted
   -- or by the call that runs a script
   pub run_uncut : (line : Line) (ran : Ran) (after : Device) (shown : Line) → ScriptRun wp script chip line ran after shown → ran.number ≡ 0
       → after.array ≡ updated chip.array start wanted

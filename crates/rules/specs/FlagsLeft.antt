@@ -1,10 +1,9 @@
 -- Flags by name (02, A7): what the scripts leave, sent to the chip as a driver does or cut on the way. "so a cut never makes up a name".
-use Rattle.std.specs.Prelude.{◌≡◌, Bool, true, false, List, [], ◌∷◌, ◌++◌, ◌⊎◌, ℕ, ◌+◌, ◌≤◌, ◌<◌, length, get_or, take}
+use Rattle.std.specs.Prelude.{◌≡◌, Bool, true, false, List, [], ◌∷◌, ◌++◌, ◌⊎◌, ℕ, ◌+◌, ◌≤◌, ◌<◌, length, get_or, take, None, Ok}
 use Rattle.common.specs.Bits.{Bytes}
 use Rattle.state.specs.declared.Planned.{Planned}
 use Rattle.frame.specs.Device.{Device}
 use Rattle.frame.specs.Line.{Line}
-use Rattle.script.specs.declared.reader.Found.TheVariants.{End}
 use Rattle.script.specs.Reader.{record_at}
 use Rattle.run.specs.declared.Ran.{Ran}
 use Rattle.run.specs.Script.{ScriptRun}
@@ -19,7 +18,7 @@ use Rattle.rules.specs.FlagsWanted.{sector_bytes, Member, NamesAre, GoodList, re
 
 -- sent to its end, record by record, or run by the call
 pub data Done (wp : Bool) (script : List ℕ) (chip : Device) : Device → Type 0 where
-  sent : {at next : ℕ} {met : Device} → SentTo wp script chip at met → record_at script at ≡ End next → Done wp script chip met
+  sent : {at : ℕ} {met : Device} → SentTo wp script chip at met → record_at script at ≡ Ok None → Done wp script chip met
   run : {line shown : Line} {ran : Ran} {after : Device} → ScriptRun wp script chip line ran after shown → ran.number ≡ 0 → Done wp script chip after
 
 -- by a call that answers so: before and after it the buffer

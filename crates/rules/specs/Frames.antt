@@ -1,11 +1,9 @@
 -- Frames (01, "Frames"): what an accepted frame does, which are ignored, and what becomes of armed.
-use Rattle.std.specs.Prelude.{◌≡◌, Bool, true, false, ◌&&◌, ◌||◌, not, cond, List, [], ◌∷◌, ℕ, eqb, length, get_or}
+use Rattle.std.specs.Prelude.{◌≡◌, Bool, true, false, ◌&&◌, ◌||◌, not, cond, List, [], ◌∷◌, ℕ, eqb, length, get_or, Option, Some, None}
 use Rattle.common.specs.Lists.{mapi, tab}
 use Rattle.state.specs.declared.State.{State}
 use Rattle.state.specs.State.{with_armed}
 use Rattle.state.specs.Soundness.{is_busy}
-use Rattle.output.specs.declared.Shown.{Shown}
-use Rattle.output.specs.declared.Shown.TheVariants.{Silent, Driven}
 use Rattle.effect.specs.Effect.{touches}
 use Rattle.frame.specs.Device.{Device, device}
 use Rattle.frame.specs.Line.{Line, on_line}
@@ -30,28 +28,28 @@ abbrev pub unchanged : Change
 unchanged = record { touched = λ k. false; becomes = λ k x. x }
 
 -- "A byte the chip doesn't drive reads FF (our board's pull-up)."
-abbrev pub reads_as : Shown → ℕ
-reads_as Silent = 0xff
-reads_as (Driven byte) = byte
+abbrev pub reads_as : Option ℕ → ℕ
+reads_as None = 0xff
+reads_as (Some byte) = byte
 
 -- "the calls that return output fill a second lent slice with 01 or 00 a byte" (02, A10): whether the chip drove it
-abbrev pub marked_as : Shown → ℕ
-marked_as Silent = 0x00
-marked_as (Driven byte) = 0x01
+abbrev pub marked_as : Option ℕ → ℕ
+marked_as None = 0x00
+marked_as (Some byte) = 0x01
 
 -- both slices, n bytes long, of a chip that shows this at byte i: "the same length, output byte i going with input byte i"
-abbrev pub both_slices : ℕ → (ℕ → Shown) → Line
+abbrev pub both_slices : ℕ → (ℕ → Option ℕ) → Line
 both_slices n shows = on_line (tab n (λ i. reads_as (shows i))) (tab n (λ i. marked_as (shows i)))
 
 -- what a frame does, whole: what it shows at byte i; the chip behind it; and which bytes count as programmed or erased when it is interrupted
-pub record Does (wp : Bool) (f : List ℕ) (d : Device) (line : Line) (shows : ℕ → Shown) (registers : State) (change : Change) : Type 0 where
+pub record Does (wp : Bool) (f : List ℕ) (d : Device) (line : Line) (shows : ℕ → Option ℕ) (registers : State) (change : Change) : Type 0 where
   pub line_is : frame_line_after wp f d line ≡ both_slices (length f) shows
   pub device_is : frame_device wp f d line ≡ device registers (changed_by change d.array)
   pub touched_are : (k : ℕ) → touches (effect_at d.state wp f) k ≡ change.touched k
 
 -- no byte is driven
-abbrev pub silent : ℕ → Shown
-silent i = Silent
+abbrev pub silent : ℕ → Option ℕ
+silent i = None
 
 -- what every frame but 06 and 50 does to the registers
 abbrev pub disarmed : Device → State

@@ -1,10 +1,9 @@
 -- An interrupted frame (01, "Interrupted frame"). "This model of a cut is ours."
-use Rattle.std.specs.Prelude.{◌≡◌, Bool, true, false, cond, List, ℕ, ◌<◌, eqb, length, get_or}
+use Rattle.std.specs.Prelude.{◌≡◌, Bool, true, false, cond, List, ℕ, ◌<◌, eqb, length, get_or, Option}
 use Rattle.common.specs.Bits.{bit_at}
 use Rattle.common.specs.Lists.{count_below}
 use Rattle.state.specs.declared.State.{State}
 use Rattle.state.specs.Power.{power_up}
-use Rattle.output.specs.declared.Shown.{Shown}
 use Rattle.frame.specs.Device.{Device}
 use Rattle.frame.specs.Line.{Line}
 use Rattle.frame.specs.Call.{cut_device, cut_line_after}
@@ -19,7 +18,7 @@ abbrev pub mask_byte : Change → List ℕ → ℕ → ℕ
 mask_byte change mask k = get_or mask (count_below change.touched k) 0
 
 -- of an accepted one, where the whole frame shows, leaves and changes this, and begins no status write that takes time (specs/StatusWrite.antt)
-pub record Interrupted (wp : Bool) (f mask : List ℕ) (d : Device) (line : Line) (shows : ℕ → Shown) (registers : State) (change : Change) : Type 0 where
+pub record Interrupted (wp : Bool) (f mask : List ℕ) (d : Device) (line : Line) (shows : ℕ → Option ℕ) (registers : State) (change : Change) : Type 0 where
   -- "As the frame, with a lent mask": both slices are the whole frame's
   pub line_is : cut_line_after wp f mask d line ≡ both_slices (length f) shows
   pub mask_length_lem : length mask ≡ mask_needed change d

@@ -1,5 +1,5 @@
 -- Opcode by opcode (01, "Frames": the table, and what stands below it; 02, A4). Each row is of an accepted frame with that opcode.
-use Rattle.std.specs.Prelude.{◌≡◌, Bool, true, false, ◌&&◌, not, cond, List, [], ◌∷◌, ◌⊎◌, ℕ, ◌+◌, ◌-◌, ◌*◌, ◌/◌, ◌%◌, leb, ltb, eqb, length, get_or, drop}
+use Rattle.std.specs.Prelude.{◌≡◌, Bool, true, false, ◌&&◌, not, cond, List, [], ◌∷◌, ◌⊎◌, ℕ, ◌+◌, ◌-◌, ◌*◌, ◌/◌, ◌%◌, leb, ltb, eqb, length, get_or, drop, Option, Some, None}
 use Rattle.std.specs.Int.Bits.{bit_and}
 use Rattle.common.specs.Lists.{within}
 use Rattle.state.specs.declared.State.{State}
@@ -8,8 +8,6 @@ use Rattle.state.specs.Protection.{first_protected}
 use Rattle.state.specs.Soundness.{is_busy}
 use Rattle.state.specs.Status.{status_of}
 use Rattle.command.specs.Fits.{Resting}
-use Rattle.output.specs.declared.Shown.{Shown}
-use Rattle.output.specs.declared.Shown.TheVariants.{Silent, Driven}
 use Rattle.effect.specs.Page.{lay_down, blank}
 use Rattle.frame.specs.Device.{Device}
 use Rattle.frame.specs.Line.{Line}
@@ -38,12 +36,12 @@ abbrev pub word_in : List ℕ → Device → ℕ
 word_in f d = address_in f d / 2 * 2
 
 -- nothing before byte n, and from there on these bytes
-abbrev pub bytes_from : ℕ → (ℕ → ℕ) → ℕ → Shown
-bytes_from n bytes i = cond (ltb i n) Silent (Driven (bytes (i - n)))
+abbrev pub bytes_from : ℕ → (ℕ → ℕ) → ℕ → Option ℕ
+bytes_from n bytes i = cond (ltb i n) None (Some (bytes (i - n)))
 
 -- "bytes 1 to 3": three bytes from byte 1 on, and nothing behind them
-abbrev pub three_bytes : ℕ → ℕ → ℕ → ℕ → Shown
-three_bytes a b c i = cond (eqb i 1) (Driven a) (cond (eqb i 2) (Driven b) (cond (eqb i 3) (Driven c) Silent))
+abbrev pub three_bytes : ℕ → ℕ → ℕ → ℕ → Option ℕ
+three_bytes a b c i = cond (eqb i 1) (Some a) (cond (eqb i 2) (Some b) (cond (eqb i 3) (Some c) None))
 
 -- "array from the address up, wrapping at the top"
 abbrev pub array_up : List ℕ → Device → ℕ → ℕ

@@ -1,10 +1,13 @@
 -- "A script is records" (01, "Scripts and plans"): their bytes, and the reader of one record.
-use Rattle.std.specs.Prelude.{◌≡◌, List, [], ◌∷◌, ◌++◌, ◌⊎◌, ℕ, ◌+◌, ◌*◌, ◌/◌, ◌%◌, ◌≤◌, ◌<◌, length, take, drop}
+use Rattle.std.specs.Prelude.{◌≡◌, List, [], ◌∷◌, ◌++◌, ◌⊎◌, ℕ, ◌+◌, ◌*◌, ◌/◌, ◌%◌, ◌≤◌, ◌<◌, length, take, drop, Some, None, Ok, Err}
 use Rattle.common.specs.Lists.{Each}
 use Rattle.common.specs.Bits.{Bytes}
 use Rattle.script.specs.Record.{Record, frame, wait, encode_record, encode}
 use Rattle.script.specs.Decode.{records, decode}
-use Rattle.script.specs.declared.reader.Found.TheVariants.{Frame, Wait, End, Refused}
+use Rattle.common.specs.Refusals
+use Rattle.common.specs.declared.refusals.Refusal.{Refusal}
+use Rattle.script.specs.declared.reader.Found.TheVariants.{Frame, Wait}
+use Rattle.script.specs.Answers.{Read, next_of}
 use Rattle.script.specs.Reader.{record_at, frame_part}
 
 -- "1 to 4,101", and what four bytes can hold
@@ -24,33 +27,40 @@ pub record ScriptBytes : Type 0 where
   pub read_back : (rs : List Record) → Each Writable rs → decode (encode rs) ≡ records rs
   pub written_back : (script : List ℕ) (rs : List Record) → Bytes script → decode script ≡ records rs → (encode rs ≡ script) × Each Writable rs
 
+-- a refusal with its number and "the given offset"
+pub record RefusedWith (number offset : ℕ) (read : Read) : Type 0 where
+  pub refusal : Refusal
+  pub is : read ≡ Err refusal
+  pub number_is : Refusals.number_of refusal ≡ number
+  pub next_is : next_of offset read ≡ offset
+
 -- "It takes a script and an offset"
 pub record ReaderRules (script : List ℕ) (offset : ℕ) : Type 0 where
   -- "and answers the frame
   pub frame_answered : (high low : ℕ) (f rest : List ℕ) → length script ≤ 32768 → drop offset script ≡ 0x5a ∷ 0x46 ∷ high ∷ low ∷ (f ++ rest)
-      → length f ≡ high * 256 + low → Writable (frame f) → record_at script offset ≡ Frame (offset + 4) (length f) (offset + 4 + length f)
+      → length f ≡ high * 256 + low → Writable (frame f) → record_at script offset ≡ Ok (Some (Frame (offset + 4) (length f) (offset + 4 + length f)))
   -- or the wait of the record there with the next offset,
   pub wait_answered : (a b c d : ℕ) (rest : List ℕ) → length script ≤ 32768 → drop offset script ≡ 0x5a ∷ 0x57 ∷ a ∷ b ∷ c ∷ d ∷ rest
-      → record_at script offset ≡ Wait (a * 16777216 + b * 65536 + c * 256 + d) (offset + 6)
+      → record_at script offset ≡ Ok (Some (Wait (a * 16777216 + b * 65536 + c * 256 + d) (offset + 6)))
   -- or "end" where the offset is the script's length."
-  pub end_answered : length script ≤ 32768 → offset ≡ length script → record_at script offset ≡ End offset
-  pub end_only_there : {next : ℕ} → record_at script offset ≡ End next → offset ≡ length script
+  pub end_answered : length script ≤ 32768 → offset ≡ length script → record_at script offset ≡ Ok None
+  pub end_only_there : record_at script offset ≡ Ok None → offset ≡ length script
   -- "The reader gives a frame back as that part of the caller's script."
   pub frame_given : (high low : ℕ) (f rest : List ℕ) → length script ≤ 32768 → drop offset script ≡ 0x5a ∷ 0x46 ∷ high ∷ low ∷ (f ++ rest)
       → length f ≡ high * 256 + low → Writable (frame f) → frame_part script offset ≡ f
-  pub as_that_part : {start n next : ℕ} → record_at script offset ≡ Frame start n next → frame_part script offset ≡ take n (drop start script)
+  pub as_that_part : {start n next : ℕ} → record_at script offset ≡ Ok (Some (Frame start n next)) → frame_part script offset ≡ take n (drop start script)
   -- "Its refusal returns an empty part and the given offset."
-  pub refusal_part : {number next : ℕ} → record_at script offset ≡ Refused number next → frame_part script offset ≡ []
-  pub refusal_offset : {number next : ℕ} → record_at script offset ≡ Refused number next → next ≡ offset
+  pub refusal_part : {refusal : Refusal} → record_at script offset ≡ Err refusal → frame_part script offset ≡ []
+  pub refusal_offset : {refusal : Refusal} → record_at script offset ≡ Err refusal → next_of offset (record_at script offset) ≡ offset
   -- "With a wait or "end" the part is empty too;
   pub wait_part : (a b c d : ℕ) (rest : List ℕ) → drop offset script ≡ 0x5a ∷ 0x57 ∷ a ∷ b ∷ c ∷ d ∷ rest → frame_part script offset ≡ []
   pub end_part : offset ≡ length script → frame_part script offset ≡ []
   -- "end" gives the given offset."
-  pub end_offset : {next : ℕ} → record_at script offset ≡ End next → next ≡ offset
+  pub end_offset : record_at script offset ≡ Ok None → next_of offset (record_at script offset) ≡ offset
   -- a length that is not "1 to 4,101" is refused, whatever follows
   pub wrong_length_refused : (high low : ℕ) (rest : List ℕ) → length script ≤ 32768 → drop offset script ≡ 0x5a ∷ 0x46 ∷ high ∷ low ∷ rest
-      → (high * 256 + low ≡ 0) ⊎ (4102 ≤ high * 256 + low) → record_at script offset ≡ Refused 13 offset
+      → (high * 256 + low ≡ 0) ⊎ (4102 ≤ high * 256 + low) → RefusedWith 13 offset (record_at script offset)
   -- "A reader's offset past the end is 14." (02, A1)
-  pub past_refused : length script ≤ 32768 → length script < offset → record_at script offset ≡ Refused 14 offset
+  pub past_refused : length script ≤ 32768 → length script < offset → RefusedWith 14 offset (record_at script offset)
   -- "At most 32,768 bytes"
-  pub too_long_refused : 32769 ≤ length script → record_at script offset ≡ Refused 11 offset
+  pub too_long_refused : 32769 ≤ length script → RefusedWith 11 offset (record_at script offset)

@@ -6,7 +6,8 @@ use Rattle.state.specs.State.{data_of}
 use Rattle.state.specs.Soundness.{is_sound, Sound}
 use Rattle.script.specs.Record.{Record, frames_in, microseconds_in, output_length}
 use Rattle.script.specs.Decode.{records, bad_offset, decode, records_of}
-use Rattle.script.specs.Survey.{survey_refusals}
+use Rattle.script.specs.Survey.{survey_refusals, survey_of}
+use Rattle.script.specs.declared.survey.Surveyed.{Surveyed}
 use Rattle.frame.specs.Device.{Device}
 use Rattle.frame.specs.Line.{Line, is_not_long, Long}
 use Rattle.run.specs.declared.Ran.{Ran}
@@ -61,6 +62,12 @@ carries_offset number = eqb number unknown_mark || eqb number wrong_length || eq
 -- "the offset of the first bad record's mark"; 0 with all other numbers
 unfoldable pub script_offset : Bool → List ℕ → Device → Line → ℕ
 script_offset wp script d line = cond (carries_offset (script_number wp script d line)) (bad_offset (decode script)) 0
+
+-- what is told of a script before it is run: a refusal's number and offset, or number 0 and the counts
+pub record Checked (wp : Bool) (script : List ℕ) (d : Device) (line : Line) (told : Surveyed) : Type 0 where
+  pub number_is : told.number ≡ script_number wp script d line
+  pub offset_is : told.offset ≡ script_offset wp script d line
+  pub counts_are : told.number ≡ 0 → told ≡ survey_of script
 
 -- what the call answers and leaves; the answer has the chip's state
 pub record ScriptRun (wp : Bool) (script : List ℕ) (d : Device) (line : Line) (ran : Ran) (after : Device) (line_after : Line) : Type 0 where

@@ -3,18 +3,18 @@
 
 mod records;
 
-ghost use Rattle.std.specs.Prelude.{◌≡◌, cond};
+ghost use Rattle.std.specs.Prelude.{◌≡◌};
 ghost use Rattle.frame.specs.Device.{device};
 ghost use Rattle.frame.specs.Line.{on_line};
-ghost use Rattle.script.specs.Survey.{survey_of};
-ghost use Rattle.run.specs.Script.{script_number, carries_offset, ScriptRun};
+ghost use Rattle.script.specs.Survey.{in_struct};
+ghost use Rattle.run.specs.Script.{carries_offset, Checked, ScriptRun};
 
-use common::refusals;
-use script::survey::Surveyed;
+use common::refusals::Refusal;
+use script::survey::{Counts, Refused, counts_of};
 use state::State;
 
 // What running a script answers: number 0 with the chip's state and the counts, or the refusal's number with the given state and, where it
-// carries one, the offset of the first bad record's mark.
+// carries one, the offset of the first bad record's mark. No Result: C reads this struct.
 #[repr(C)]
 #[derive(Clone, Copy)]
 pub struct Ran {
@@ -25,52 +25,37 @@ pub struct Ran {
     pub offset: usize,
 }
 
-// Whether a refusal comes with the offset of a record.
+// Whether a refusal, by its number as an answer carries it, comes with the offset of a record.
 pub fn carries_offset(number: u32) -> bool
     ensures { result ≡ carries_offset number }
 {
-    (number == refusals::UNKNOWN_MARK)
-        | (number == refusals::WRONG_LENGTH)
-        | (number == refusals::CUT_SHORT)
+    number == Refusal::UnknownMark.number()
+        || number == Refusal::WrongLength.number()
+        || number == Refusal::CutShort.number()
 }
 
-// The script's own refusals are its survey's.
-fn script_number(
+// What the records count, or why the script is not run.
+fn check_script(
     s: State,
     wp: bool,
     array: &[u8],
     script: &[u8],
-    survey: Surveyed,
     output: &[u8],
     driven: &[u8],
-) -> u32
-    requires { survey ≡ survey_of script.now }
-    ensures { result ≡ script_number wp script.now (device s array.now) (on_line output.now driven.now) }
+) -> Result<Counts, Refused>
+    ensures { Checked wp script.now (device s array.now) (on_line output.now driven.now) (in_struct result) }
 {
     if !state::soundness::is_sound(s) {
-        return refusals::STATE_NOT_SOUND;
+        return Err(Refusal::StateNotSound.into());
     }
     if array.len() != chip::chip_of(s.chip).size as usize {
-        return refusals::WRONG_ARRAY;
+        return Err(Refusal::WrongArray.into());
     }
-    if survey.number != 0 {
-        return survey.number;
+    let counts = counts_of(script)?;
+    if output.len() != counts.output || driven.len() != counts.output {
+        return Err(Refusal::WrongOutput.into());
     }
-    if (output.len() != survey.output) | (driven.len() != survey.output) {
-        return refusals::WRONG_OUTPUT;
-    }
-    0
-}
-
-// The survey's offset, with the refusals that carry one.
-fn script_offset(number: u32, survey: Surveyed) -> usize
-    ensures { result ≡ cond (carries_offset number) survey.offset 0 }
-{
-    if carries_offset(number) {
-        survey.offset
-    } else {
-        0
-    }
+    Ok(counts)
 }
 
 // Run a script, with one WP level for all its frames. Every record is checked before the first is run.
@@ -84,23 +69,24 @@ pub fn run_script(
 ) -> Ran
     ensures { ScriptRun wp script.now (device s array.old) (on_line output.old driven.old) result (device result.state array.new) (on_line output.new driven.new) }
 {
-    let survey = script::survey::survey_of(script);
-    let number = script_number(s, wp, array, script, survey, output, driven);
-    if number != 0 {
-        return Ran {
-            number,
-            state: s,
-            frames: 0,
-            microseconds: 0,
-            offset: script_offset(number, survey),
-        };
-    }
+    let counts = match check_script(s, wp, array, script, output, driven) {
+        Ok(counts) => counts,
+        Err(refused) => {
+            return Ran {
+                number: refused.refusal.number(),
+                state: s,
+                frames: 0,
+                microseconds: 0,
+                offset: refused.offset,
+            };
+        }
+    };
     let state = records::run_records(s, wp, array, script, output, driven);
     Ran {
         number: 0,
         state,
-        frames: survey.frames,
-        microseconds: survey.microseconds,
+        frames: counts.frames,
+        microseconds: counts.microseconds,
         offset: 0,
     }
 }

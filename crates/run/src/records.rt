@@ -8,7 +8,7 @@ use script::reader::{Found, front_at, part_at};
 use state::State;
 use state::time::time_passed;
 
-// The script has been checked, so each answer of the reader is a record or the end, and each frame is accepted. What a frame shows is laid
+// The script has been checked, so none of its records is refused, and each frame is accepted. What a frame shows is laid
 // behind what those before it showed, in both slices.
 pub(crate) fn run_records(
     s: State,
@@ -24,8 +24,7 @@ pub(crate) fn run_records(
     let mut state = s;
     let mut at: usize = 0;
     let mut laid: usize = 0;
-    loop {
-        let found = front_at(script, at);
+    while let Some(found) = front_at(script, at).unwrap() {
         match found {
             Found::Frame {
                 start,
@@ -49,7 +48,7 @@ pub(crate) fn run_records(
                 state = time_passed(state, microseconds);
                 at = next;
             }
-            _ => return state,
         }
     }
+    state
 }

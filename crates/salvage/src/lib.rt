@@ -5,13 +5,13 @@ mod pieces; // the walks
 mod used; // what stands before the final erased stretch
 
 ghost use Rattle.std.specs.Prelude.{◌≡◌};
+ghost use Rattle.common.specs.Refusals.{number_of};
 ghost use Rattle.salvage.specs.Answers.{refused_salvage, Salvages};
 
-use common::refusals;
+use common::limits::{ERASED, SECTOR};
+use common::refusals::Refusal;
 
-const SECTOR: usize = 4096;
-
-// `length` is of the list of dropped stretches, `kept` of the kept records, in bytes; both are 0 with a refusal.
+// `length` is of the list of dropped stretches, `kept` of the kept records, in bytes; both are 0 with a refusal. No Result: C reads this struct.
 #[repr(C)]
 #[derive(Clone, Copy)]
 pub struct Salvaged {
@@ -20,11 +20,11 @@ pub struct Salvaged {
     pub kept: u32,
 }
 
-fn refuse(number: u32) -> Salvaged
-    ensures { result ≡ refused_salvage number }
+fn refuse(refusal: Refusal) -> Salvaged
+    ensures { result ≡ refused_salvage (number_of refusal) }
 {
     Salvaged {
-        number,
+        number: refusal.number(),
         length: 0,
         kept: 0,
     }
@@ -36,15 +36,15 @@ pub fn salvage(sector: &[u8], kept: &mut [u8], dropped: &mut [u8]) -> Salvaged
     ensures { Salvages sector.now kept.old dropped.old kept.new dropped.new result }
 {
     if (sector.len() != SECTOR) | (kept.len() != SECTOR) {
-        return refuse(refusals::WRONG_ARRAY);
+        return refuse(Refusal::WrongArray);
     }
     let used = used::used_part(sector);
     let length = pieces::list_length(used);
     if dropped.len() < length {
-        return refuse(refusals::BUFFER_TOO_SHORT);
+        return refuse(Refusal::BufferTooShort);
     }
     let size = pieces::put_pieces(used, kept, dropped);
-    common::runs::fill_run(kept, size, SECTOR, used::ERASED);
+    common::runs::fill_run(kept, size, SECTOR, ERASED);
     Salvaged {
         number: 0,
         length: length as u32,

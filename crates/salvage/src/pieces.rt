@@ -16,14 +16,12 @@ fn stretch_end(bytes: &[u8], at: usize) -> usize
     requires { (at < length bytes.now) × (front (drop at bytes.now) ≡ none) }
     ensures { StretchEnds bytes.now at result }
 {
-    let mut end = at + 1;
-    while end < bytes.len() {
-        if record_at(bytes, end) != 0 {
+    for end in at + 1..bytes.len() {
+        if record_at(bytes, end).is_some() {
             return end;
         }
-        end += 1;
     }
-    end
+    bytes.len()
 }
 
 // How long the list of dropped stretches will be.
@@ -33,13 +31,14 @@ pub fn list_length(bytes: &[u8]) -> usize
 {
     let mut at: usize = 0;
     let mut listed: usize = 0;
+    // No `for`: how far a turn goes is what stands there, a record or a stretch.
     while at < bytes.len() {
-        let record = record_at(bytes, at);
-        if record == 0 {
-            at = stretch_end(bytes, at);
-            listed += ENTRY;
-        } else {
-            at += record;
+        match record_at(bytes, at) {
+            Some(size) => at += size,
+            None => {
+                at = stretch_end(bytes, at);
+                listed += ENTRY;
+            }
         }
     }
     listed
@@ -50,16 +49,8 @@ fn put_stretch(start: usize, count: usize, list: &mut [u8], at: usize) -> usize
     requires { (start < 65536) × (count < 65536) × (at + 4 ≤ length list.old) }
     ensures { Put at (stretch_bytes record { start = start; count = count }) list.old list.new result }
 {
-    put(
-        &[
-            (start / 256) as u8,
-            (start % 256) as u8,
-            (count / 256) as u8,
-            (count % 256) as u8,
-        ],
-        list,
-        at,
-    )
+    let behind = put(&(start as u16).to_be_bytes(), list, at);
+    put(&(count as u16).to_be_bytes(), list, behind)
 }
 
 // The records and the list, each laid from the front of its buffer; gives the length of the records.
@@ -71,16 +62,19 @@ pub fn put_pieces(bytes: &[u8], kept: &mut [u8], list: &mut [u8]) -> usize
     let mut at: usize = 0;
     let mut size: usize = 0;
     let mut listed: usize = 0;
+    // as above
     while at < bytes.len() {
-        let record = record_at(bytes, at);
-        if record == 0 {
-            let end = stretch_end(bytes, at);
-            listed = put_stretch(at, end - at, list, listed);
-            at = end;
-        } else {
-            let end = at + record;
-            size = put(&bytes[at..end], kept, size);
-            at = end;
+        match record_at(bytes, at) {
+            Some(record) => {
+                let end = at + record;
+                size = put(&bytes[at..end], kept, size);
+                at = end;
+            }
+            None => {
+                let end = stretch_end(bytes, at);
+                listed = put_stretch(at, end - at, list, listed);
+                at = end;
+            }
         }
     }
     size

@@ -1,5 +1,5 @@
 pub mod Records
-mod Front
+pub mod Front
 pub mod Places
 pub mod Decode
 pub mod Marks

@@ -1,16 +1,15 @@
 // The reader: what the record at an offset of a script is.
-ghost use Rattle.std.specs.Prelude.{◌≡◌, ◌+◌, ◌≤◌, ◌<◌, length, take, drop};
+ghost use Rattle.std.specs.Prelude.{◌≡◌, ◌+◌, ◌≤◌, length, take, drop};
 ghost use Rattle.common.specs.Limits.{longest_script};
-ghost use Rattle.script.specs.declared.reader.Found.TheVariants.{Refused};
 ghost use Rattle.script.specs.Decode.{front_frame, front_wait, front};
-ghost use Rattle.script.specs.Reader.{two_bytes_at, four_bytes_at, answer, frame_part, Answered};
+ghost use Rattle.script.specs.Reader.{answer, frame_part, Answered};
 
 use super::marks::{FRAME_MARK, SCRIPT_MARK, WAIT_MARK};
 use common::limits::{LONGEST_FRAME, LONGEST_SCRIPT};
-use common::refusals;
+use common::refusals::Refusal;
 
-// What the reader answers: the frame's place in the script or the wait, with the next offset; the end or a refusal, with the given one.
-#[derive(Clone, Copy)]
+// A record: the frame's place in the script or the wait, with the next offset.
+#[derive(Clone, Copy, Debug, PartialEq, Eq)]
 pub enum Found {
     Frame {
         start: usize,
@@ -21,117 +20,73 @@ pub enum Found {
         microseconds: u32,
         next: usize,
     },
-    End {
-        next: usize,
-    },
-    Refused {
-        number: u32,
-        next: usize,
-    },
 }
 
-// One byte is no mark yet, whatever it is: its record is cut short.
-const HALF_MARK: u32 = refusals::CUT_SHORT;
-
-// So is one that would begin past the end.
-const PAST_END: u32 = refusals::CUT_SHORT;
-
-// A refusal gives back the offset that it got.
-fn refused(number: u32, offset: usize) -> Found
-    ensures { result ≡ Refused number offset }
+// The record whose mark 5A 46 is at the offset, by the bytes behind the mark.
+fn frame_at(bytes: &[u8], offset: usize) -> Result<Option<Found>, Refusal>
+    requires { offset ≤ longest_script }
+    ensures { result ≡ answer offset (front_frame bytes.now) }
 {
-    Found::Refused {
-        number,
-        next: offset,
+    let [high, low, rest @ ..] = bytes else {
+        return Err(Refusal::CutShort);
+    };
+    let length = usize::from(u16::from_be_bytes([*high, *low]));
+    if length < 1 || LONGEST_FRAME < length {
+        return Err(Refusal::WrongLength);
     }
-}
-
-// The number of two bytes, high first.
-fn two_bytes_at(bytes: &[u8], at: usize) -> u32
-    requires { at + 2 ≤ length bytes.now }
-    ensures { (result ≡ two_bytes_at bytes.now at) × (result < 65536) }
-{
-    common::wide(bytes[at]) * 256 + common::wide(bytes[at + 1])
-}
-
-// The number of four bytes, high first.
-fn four_bytes_at(bytes: &[u8], at: usize) -> u32
-    requires { at + 4 ≤ length bytes.now }
-    ensures { result ≡ four_bytes_at bytes.now at }
-{
-    two_bytes_at(bytes, at) * 65536 + two_bytes_at(bytes, at + 2)
-}
-
-// The record whose mark 5A 46 is at the offset.
-fn frame_at(script: &[u8], offset: usize) -> Found
-    requires { (offset + 2 ≤ length script.now) × (length script.now ≤ longest_script) }
-    ensures { result ≡ answer offset (front_frame (drop (offset + 2) script.now)) }
-{
+    if rest.len() < length {
+        return Err(Refusal::CutShort);
+    }
     let start = offset + 4;
-    if script.len() < start {
-        return refused(refusals::CUT_SHORT, offset);
-    }
-    let length = two_bytes_at(script, offset + 2) as usize;
-    if (length < 1) | (LONGEST_FRAME < length) {
-        return refused(refusals::WRONG_LENGTH, offset);
-    }
-    if script.len() - start < length {
-        return refused(refusals::CUT_SHORT, offset);
-    }
-    Found::Frame {
+    Ok(Some(Found::Frame {
         start,
         length,
         next: start + length,
-    }
+    }))
 }
 
-// The record whose mark 5A 57 is at the offset.
-fn wait_at(script: &[u8], offset: usize) -> Found
-    requires { (offset + 2 ≤ length script.now) × (length script.now ≤ longest_script) }
-    ensures { result ≡ answer offset (front_wait (drop (offset + 2) script.now)) }
+// The record whose mark 5A 57 is at the offset, by the bytes behind the mark.
+fn wait_at(bytes: &[u8], offset: usize) -> Result<Option<Found>, Refusal>
+    requires { offset ≤ longest_script }
+    ensures { result ≡ answer offset (front_wait bytes.now) }
 {
-    let next = offset + 6;
-    if script.len() < next {
-        return refused(refusals::CUT_SHORT, offset);
-    }
-    Found::Wait {
-        microseconds: four_bytes_at(script, offset + 2),
-        next,
-    }
+    let [a, b, c, d, ..] = bytes else {
+        return Err(Refusal::CutShort);
+    };
+    Ok(Some(Found::Wait {
+        microseconds: u32::from_be_bytes([*a, *b, *c, *d]),
+        next: offset + 6,
+    }))
 }
 
-// What stands at an offset of a script: the end, or a record by its mark. For loops over a script that have tested
+// What stands at an offset of a script: a record by its mark, or none at the end. For loops over a script that have tested
 // its length and stay inside it; `record_at` makes both tests itself.
-pub fn front_at(script: &[u8], offset: usize) -> Found
+pub fn front_at(script: &[u8], offset: usize) -> Result<Option<Found>, Refusal>
     requires { (offset ≤ length script.now) × (length script.now ≤ longest_script) }
     ensures { result ≡ answer offset (front (drop offset script.now)) }
 {
-    if offset == script.len() {
-        return Found::End { next: offset };
+    match &script[offset..] {
+        [] => Ok(None),
+        // one byte is no mark yet, whatever it is
+        [_] => Err(Refusal::CutShort),
+        [first, second, bytes @ ..] => match (*first, *second) {
+            (SCRIPT_MARK, FRAME_MARK) => frame_at(bytes, offset),
+            (SCRIPT_MARK, WAIT_MARK) => wait_at(bytes, offset),
+            _ => Err(Refusal::UnknownMark),
+        },
     }
-    if script.len() - offset < 2 {
-        return refused(HALF_MARK, offset);
-    }
-    let first = script[offset];
-    let second = script[offset + 1];
-    if (first == SCRIPT_MARK) & (second == FRAME_MARK) {
-        return frame_at(script, offset);
-    }
-    if (first == SCRIPT_MARK) & (second == WAIT_MARK) {
-        return wait_at(script, offset);
-    }
-    refused(refusals::UNKNOWN_MARK, offset)
 }
 
 // The record at an offset of a script. It looks at this one record only.
-pub fn record_at(script: &[u8], offset: usize) -> Found
+pub fn record_at(script: &[u8], offset: usize) -> Result<Option<Found>, Refusal>
     ensures { Answered script.now offset result }
 {
     if LONGEST_SCRIPT < script.len() {
-        return refused(refusals::SCRIPT_TOO_LONG, offset);
+        return Err(Refusal::ScriptTooLong);
     }
+    // a record that would begin past the end is cut short
     if script.len() < offset {
-        return refused(PAST_END, offset);
+        return Err(Refusal::CutShort);
     }
     front_at(script, offset)
 }
@@ -149,9 +104,8 @@ pub fn part_at(script: &[u8], start: usize, count: usize) -> &[u8]
 pub fn frame_part(script: &[u8], offset: usize) -> &[u8]
     ensures { result.now ≡ frame_part script.now offset }
 {
-    let found = record_at(script, offset);
-    let Found::Frame { start, length, .. } = found else {
-        return &script[..0];
-    };
-    part_at(script, start, length)
+    match record_at(script, offset) {
+        Ok(Some(Found::Frame { start, length, .. })) => part_at(script, start, length),
+        Ok(Some(Found::Wait { .. }) | None) | Err(_) => &script[..0],
+    }
 }

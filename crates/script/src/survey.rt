@@ -1,13 +1,35 @@
 // A whole script, looked through without running it.
 ghost use Rattle.std.specs.Prelude.{◌≡◌};
-ghost use Rattle.script.specs.Survey.{counted_survey, refused_survey, survey_of};
+ghost use Rattle.script.specs.Survey.{counts_of, in_struct, no_offset, survey_of};
 
 use super::reader::{Found, front_at};
 use common::limits::LONGEST_SCRIPT;
-use common::refusals;
+use common::refusals::Refusal;
 
-// Number 0 and what the records count, the bytes of output among them; or the refusal's number, with the offset of the first bad record's mark
-// unless the script is too long.
+// What a script's records count: `output` is the bytes that its frames show.
+#[derive(Clone, Copy, Debug, PartialEq, Eq)]
+pub struct Counts {
+    pub frames: u32,
+    pub microseconds: u64,
+    pub output: usize,
+}
+
+// Why a script is refused, and where: the offset is that of the first bad record's mark, and 0 with a refusal that is of no record.
+#[derive(Clone, Copy, Debug, PartialEq, Eq)]
+pub struct Refused {
+    pub refusal: Refusal,
+    pub offset: usize,
+}
+
+impl From<Refusal> for Refused {
+    ghost from_gives = { λ refusal refused. refused ≡ no_offset refusal };
+
+    fn from(refusal: Refusal) -> Refused {
+        Refused { refusal, offset: 0 }
+    }
+}
+
+// No Result: C reads this struct. Number 0 and what the records count; or the refusal's number and its offset.
 #[repr(C)]
 #[derive(Clone, Copy)]
 pub struct Surveyed {
@@ -18,60 +40,69 @@ pub struct Surveyed {
     pub output: usize,
 }
 
-// Of a script that can be run.
-fn counted_survey(frames: u32, microseconds: u64, output: usize) -> Surveyed
-    ensures { result ≡ counted_survey frames microseconds output }
-{
-    Surveyed {
-        number: 0,
-        frames,
-        microseconds,
-        offset: 0,
-        output,
+impl From<Result<Counts, Refused>> for Surveyed {
+    ghost from_gives = { λ counted surveyed. surveyed ≡ in_struct counted };
+
+    fn from(counted: Result<Counts, Refused>) -> Surveyed {
+        match counted {
+            Ok(counts) => Surveyed {
+                number: 0,
+                frames: counts.frames,
+                microseconds: counts.microseconds,
+                offset: 0,
+                output: counts.output,
+            },
+            Err(refused) => Surveyed {
+                number: refused.refusal.number(),
+                frames: 0,
+                microseconds: 0,
+                offset: refused.offset,
+                output: 0,
+            },
+        }
     }
 }
 
-// Of a refused script.
-fn refused_survey(number: u32, offset: usize) -> Surveyed
-    ensures { result ≡ refused_survey number offset }
+// The whole script in one pass over its records. No iterator: the step comes out of the record, and a bad one is told with its offset.
+pub fn counts_of(script: &[u8]) -> Result<Counts, Refused>
+    ensures { result ≡ counts_of script.now }
 {
-    Surveyed {
-        number,
+    if LONGEST_SCRIPT < script.len() {
+        return Err(Refusal::ScriptTooLong.into());
+    }
+    let mut counts = Counts {
         frames: 0,
         microseconds: 0,
-        offset,
         output: 0,
+    };
+    let mut at = 0;
+    loop {
+        match front_at(script, at) {
+            Ok(Some(found)) => match found {
+                Found::Frame { length, next, .. } => {
+                    counts.frames += 1;
+                    counts.output += length;
+                    at = next;
+                }
+                Found::Wait { microseconds, next } => {
+                    counts.microseconds += u64::from(microseconds);
+                    at = next;
+                }
+            },
+            Ok(None) => return Ok(counts),
+            Err(refusal) => {
+                return Err(Refused {
+                    refusal,
+                    offset: at,
+                });
+            }
+        }
     }
 }
 
-// The whole script in one pass over its records.
+// The same, for C.
 pub fn survey_of(script: &[u8]) -> Surveyed
     ensures { result ≡ survey_of script.now }
 {
-    if LONGEST_SCRIPT < script.len() {
-        return refused_survey(refusals::SCRIPT_TOO_LONG, 0);
-    }
-    let mut at: usize = 0;
-    let mut frames: u32 = 0;
-    let mut microseconds: u64 = 0;
-    let mut output: usize = 0;
-    loop {
-        let found = front_at(script, at);
-        match found {
-            Found::Frame { length, next, .. } => {
-                frames += 1;
-                output += length;
-                at = next;
-            }
-            Found::Wait {
-                microseconds: waited,
-                next,
-            } => {
-                microseconds += waited as u64;
-                at = next;
-            }
-            Found::End { .. } => return counted_survey(frames, microseconds, output),
-            Found::Refused { number, next } => return refused_survey(number, next),
-        }
-    }
+    counts_of(script).into()
 }

@@ -13,11 +13,8 @@ pub fn put_head(n: usize, buffer: &mut [u8], at: usize) -> usize
     requires at_in_bounds { at + 4 ≤ length buffer.old }
     ensures { Put at (frame_head n) buffer.old buffer.new result }
 {
-    put(
-        &[SCRIPT_MARK, FRAME_MARK, (n / 256) as u8, (n % 256) as u8],
-        buffer,
-        at,
-    )
+    let [high, low] = (n as u16).to_be_bytes();
+    put(&[SCRIPT_MARK, FRAME_MARK, high, low], buffer, at)
 }
 
 // A frame's record.
@@ -35,13 +32,6 @@ pub fn put_wait(microseconds: u32, buffer: &mut [u8], at: usize) -> usize
     requires { at + length (encode_record (wait microseconds)) ≤ length buffer.old }
     ensures { Put at (encode_record (wait microseconds)) buffer.old buffer.new result }
 {
-    let first = (microseconds / 16777216) as u8;
-    let second = (microseconds / 65536 % 256) as u8;
-    let third = (microseconds / 256 % 256) as u8;
-    let fourth = (microseconds % 256) as u8;
-    put(
-        &[SCRIPT_MARK, WAIT_MARK, first, second, third, fourth],
-        buffer,
-        at,
-    )
+    let [a, b, c, d] = microseconds.to_be_bytes();
+    put(&[SCRIPT_MARK, WAIT_MARK, a, b, c, d], buffer, at)
 }

@@ -4,4 +4,3 @@
 pub mod image;
 pub mod moving;
 pub mod returning;
-pub mod sizes;

@@ -1,63 +1,47 @@
 // From a book to a sector of names: the records of the read scenes, in list order.
-ghost use Rattle.std.specs.Prelude.{◌≡◌, [], ◌+◌, ◌≤◌, length};
+ghost use Rattle.std.specs.Prelude.{◌≡◌, [], length};
 ghost use Rattle.names.specs.Records.{padded};
-ghost use Rattle.namelist.specs.Listed.{Good};
 ghost use Rattle.sectors.specs.Laid.{ReadPut, MoveLaid};
 
 use crate::image::is_missing;
-use crate::sizes::SECTOR;
-use namelist::list::name_at;
+use book::telling::Book;
+use common::limits::SECTOR;
+use common::refusals::Refusal;
+use namelist::list::NameList;
 use names::record::{HEAD, put_record};
 
-// The length of records that don't fit in a sector.
-const TOO_LONG: usize = 4097;
-
-// Lays the records of the read scenes, with their marks or with FF in their place; gives their length.
-fn put_read(
-    array: &[u8],
-    book: usize,
-    list: &[u8],
-    marked: bool,
-    wanted: &mut [u8; SECTOR],
-) -> usize
-    requires { (book + 512 ≤ length array.now) × Good list.now }
-    ensures { ReadPut array.now book list.now marked wanted.old wanted.new result }
+// Lays the records of the read scenes, with their marks or with FF in their place; gives their length. None: they don't fit.
+fn put_read(book: &Book, names: &NameList, marked: bool, wanted: &mut [u8; SECTOR]) -> Option<usize>
+    ensures { ReadPut book.now.array.now book.now.sector names.now.bytes.now marked wanted.old wanted.new result }
 {
-    let mut at: usize = 0;
-    let mut scene: u32 = 0;
     let mut end: usize = 0;
-    while at < list.len() {
-        let name = name_at(list, at);
-        let read = book::telling::scene_read(array, book, scene);
+    for (scene, name) in names.iter().enumerate() {
+        let read = book.scene_read(scene as u32);
         if read {
             if SECTOR - end < HEAD + name.len() {
-                return TOO_LONG;
+                return None;
             }
             end = put_record(name, marked, wanted, end);
         }
-        scene += 1;
-        at += 1 + name.len();
     }
-    end
+    Some(end)
 }
 
-// The sector as a move wants it; false where the records don't fit.
+// The sector as a move wants it, unless the records don't fit.
 pub fn lay_move(
-    array: &[u8],
-    book: usize,
-    list: &[u8],
+    book: &Book,
+    names: &NameList,
     image: &[u8],
     wanted: &mut [u8; SECTOR],
-) -> bool
-    requires { (wanted.old ≡ padded []) × (length image.now ≡ 4096) × (book + 512 ≤ length array.now) × Good list.now }
-    ensures { MoveLaid array.now book list.now image.now wanted.new result }
+) -> Result<(), Refusal>
+    requires { (wanted.old ≡ padded []) × (length image.now ≡ 4096) }
+    ensures { MoveLaid book.now.array.now book.now.sector names.now.bytes.now image.now wanted.new result }
 {
-    let end = put_read(array, book, list, false, wanted);
-    if SECTOR < end {
-        return false;
+    let Some(end) = put_read(book, names, false, wanted) else {
+        return Err(Refusal::RecordsTooLong);
+    };
+    if !is_missing(&wanted[..end], image) {
+        put_read(book, names, true, wanted);
     }
-    if !is_missing(wanted, image, 0, end) {
-        put_read(array, book, list, true, wanted);
-    }
-    true
+    Ok(())
 }

@@ -11,6 +11,7 @@ ghost use Rattle.std.specs.Prelude.{◌≡◌};
 ghost use Rattle.state.specs.Answer.{granted, refused, refused_plan};
 
 // BUSY is "left above 0" and no field.
+// C reads this struct: so the chip is a number and no enum, and what is pending a flag with bits and no Option.
 #[repr(C)]
 #[derive(Clone, Copy)]
 pub struct State {
@@ -36,6 +37,7 @@ pub struct State {
 }
 
 // A call's answer: 0 and the new state, or the refusal's number and the given one.
+// No Result, here and in the two below: C reads these structs.
 #[repr(C)]
 #[derive(Clone, Copy)]
 pub struct Answer {

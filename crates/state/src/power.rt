@@ -3,7 +3,7 @@ ghost use Rattle.std.specs.Prelude.{◌≡◌};
 ghost use Rattle.state.specs.Power.{at_rest, new_state, new_chip, powered_up, power_up};
 
 use crate::{Answer, State};
-use common::refusals;
+use common::refusals::Refusal;
 
 // Nothing going on: only the chip and its protection bits.
 fn at_rest(chip: u8, bp: u8, tb: bool, bpl: bool) -> State
@@ -25,6 +25,7 @@ fn at_rest(chip: u8, bp: u8, tb: bool, bpl: bool) -> State
     }
 }
 
+#[tactic(auto, unfolding(crate::specs::Power::new_state))]
 fn new_state(chip: u8) -> State
     ensures { result ≡ new_state chip }
 {
@@ -32,17 +33,19 @@ fn new_state(chip: u8) -> State
 }
 
 // Make a new chip. Of an unknown number there is none: refusal 1 comes with a new F25L05PA.
+#[tactic(auto, unfolding(crate::specs::Power::new_chip))]
 pub fn new_chip(number: u8) -> Answer
     ensures { result ≡ new_chip number }
 {
     if chip::is_known(number) {
         crate::grant(new_state(number))
     } else {
-        crate::refuse(refusals::STATE_NOT_SOUND, new_state(5))
+        crate::refuse(Refusal::StateNotSound.number(), new_state(5))
     }
 }
 
 // The state after power-off and power-up: bits that were pending are lost.
+#[tactic(auto, unfolding(crate::specs::Power::powered_up))]
 pub fn powered_up(s: State) -> State
     ensures { result ≡ powered_up s }
 {
@@ -54,12 +57,13 @@ pub fn powered_up(s: State) -> State
 }
 
 // Power the chip up again.
+#[tactic(auto, unfolding(crate::specs::Power::power_up, crate::specs::Power::state_refusal))]
 pub fn power_up(s: State) -> Answer
     ensures { result ≡ power_up s }
 {
     if crate::soundness::is_sound(s) {
         crate::grant(powered_up(s))
     } else {
-        crate::refuse(refusals::STATE_NOT_SOUND, s)
+        crate::refuse(Refusal::StateNotSound.number(), s)
     }
 }

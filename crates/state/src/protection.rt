@@ -13,19 +13,18 @@ const BLOCK: u32 = 0x10000;
 // The F25L008A. Level 000 protects nothing: the answer is the size. 001 protects the upper block, and each further level double the one
 // below: 010 two blocks, 011 four, 100 eight, and 101 all sixteen, from address 0. 110 and 111 protect no more than everything.
 // A level over 7 is none of the chip's, and no sound state has it; the answer there is 0.
-#[tactic(auto, using(crate::proofs::Laws::Protection::level_first, crate::proofs::Laws::Protection::level_part, crate::proofs::Laws::Protection::level_shift, crate::proofs::Laws::Protection::level_all))]
+#[tactic(auto, using(crate::proofs::Laws::Protection::level_part, crate::proofs::Laws::Protection::level_shift))]
 fn first_by_level(level: u8) -> u32
     ensures { result ≡ get_or first_protected_by_level level 0 }
 {
-    if level == 0 {
-        return SIZE;
+    match level {
+        0 => SIZE,
+        1..=5 => SIZE - (BLOCK << (level - 1)),
+        _ => 0,
     }
-    if level > 5 {
-        return 0;
-    }
-    SIZE - (BLOCK << (level - 1))
 }
 
+#[tactic(auto, unfolding(crate::specs::Protection::first_protected))]
 pub fn first_protected(s: State) -> u32
     ensures { result ≡ first_protected s }
 {

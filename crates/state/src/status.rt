@@ -4,6 +4,8 @@ ghost use Rattle.state.specs.Status.{status_of, has, writable_bits, with_status_
 
 use crate::State;
 
+// bit_of puts a bit's value beside it, where u8::from would need a factor.
+#[tactic(auto, unfolding(crate::specs::Status::status_of))]
 pub fn status_of(s: State) -> u8
     ensures { result ≡ status_of s }
 {
@@ -34,9 +36,10 @@ pub fn writable_bits(byte: u8) -> u8
 pub fn with_status_byte(s: State, byte: u8) -> State
     ensures { result ≡ with_status_byte s byte }
 {
-    let mut t = s;
-    t.bp = byte / 4 % 8;
-    t.tb = chip::chip_of(s.chip).top_bottom & has_bit(byte, 32);
-    t.bpl = has_bit(byte, 128);
-    t
+    State {
+        bp: byte / 4 % 8,
+        tb: chip::chip_of(s.chip).top_bottom & has_bit(byte, 32),
+        bpl: has_bit(byte, 128),
+        ..s
+    }
 }

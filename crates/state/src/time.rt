@@ -3,9 +3,10 @@ ghost use Rattle.std.specs.Prelude.{◌≡◌};
 ghost use Rattle.state.specs.Time.{cycle_ended, time_passed, pass_time};
 
 use crate::{Answer, State};
-use common::refusals;
+use common::refusals::Refusal;
 
 // The write cycle is over. WEL falls here and not when the frame ends; only AAI that can go on keeps it. The bits of a status write are seen from here on.
+#[tactic(auto, unfolding(crate::specs::Time::cycle_ended))]
 pub fn cycle_ended(s: State) -> State
     ensures { result ≡ cycle_ended s }
 {
@@ -29,27 +30,30 @@ pub fn cycle_ended(s: State) -> State
     t
 }
 
+#[tactic(auto, unfolding(crate::specs::Time::time_passed))]
 pub fn time_passed(s: State, n: u32) -> State
     ensures { result ≡ time_passed s n }
 {
     if n < s.left {
-        let mut t = s;
-        t.left = s.left - n;
-        return t;
+        State {
+            left: s.left - n,
+            ..s
+        }
+    } else if s.left == 0 {
+        s
+    } else {
+        cycle_ended(s)
     }
-    if s.left == 0 {
-        return s;
-    }
-    cycle_ended(s)
 }
 
 // Let n microseconds pass.
+#[tactic(auto, unfolding(crate::specs::Time::pass_time, crate::specs::Power::state_refusal))]
 pub fn pass_time(s: State, n: u32) -> Answer
     ensures { result ≡ pass_time s n }
 {
     if crate::soundness::is_sound(s) {
         crate::grant(time_passed(s, n))
     } else {
-        crate::refuse(refusals::STATE_NOT_SOUND, s)
+        crate::refuse(Refusal::StateNotSound.number(), s)
     }
 }

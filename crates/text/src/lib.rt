@@ -1,10 +1,10 @@
 // Lines of text, written into a lent buffer one behind the other. Nothing here knows a chip or a script.
 #![tactic(auto)]
 
-ghost use Rattle.std.specs.Prelude.{◌≡◌, ◌+◌, ◌≤◌, ◌<◌, length};
+ghost use Rattle.std.specs.Prelude.{◌≡◌, List, [], ◌∷◌, ◌++◌, ℕ, ◌+◌, ◌≤◌, ◌<◌, length, flat_map};
 ghost use Rattle.common.specs.Buffer.{Put};
 ghost use Rattle.common.specs.Lists.{Each};
-ghost use Rattle.text.specs.Text.{digit, pair, hex, shown_pair, shown_hex, decimal_end, decimal, spaced, decimals, line, decimals_line};
+ghost use Rattle.text.specs.Text.{digit, pair, hex, shown_pair, shown_hex, decimal_end, decimal, spaced, line_feed, line, decimals_line};
 
 use common::buffer::put;
 
@@ -12,6 +12,8 @@ use common::buffer::put;
 const LINE_FEED: u8 = b'\n';
 
 // The character of a digit below 16.
+// No `char::from_digit`: it gives small letters, within an `Option`.
+#[tactic(auto, unfolding(crate::specs::Text::digit))]
 fn digit(value: u8) -> u8
     requires { value < 16 }
     ensures { result ≡ digit value }
@@ -23,52 +25,28 @@ fn digit(value: u8) -> u8
     }
 }
 
-// A byte's two digits.
-fn put_pair(byte: u8, text: &mut [u8], at: usize) -> usize
-    requires { at + 2 ≤ length text.old }
-    ensures { Put at (pair byte) text.old text.new result }
-{
-    put(&[digit(byte / 16), digit(byte % 16)], text, at)
+// Something that a line can spell out.
+// No `Display`, and no struct of text and place: whatever holds the lent text needs a clause about that loan in each contract.
+trait Spelled {
+    // its characters
+    ghost characters: { Self → List ℕ };
+
+    // which values of the type have them
+    ghost can_spell: { Self → Type 0 } = { λ _. Unit {0} };
+
+    fn put(self, text: &mut [u8], at: usize) -> usize
+        requires spelled { can_spell self }
+        requires room { at + length (characters self) ≤ length text.old }
+        ensures { Put at (characters self) text.old text.new result };
 }
 
-// Each byte's, without gaps.
-fn put_hex(bytes: &[u8], text: &mut [u8], at: usize) -> usize
-    requires { at + length (hex bytes.now) ≤ length text.old }
-    ensures { Put at (hex bytes.now) text.old text.new result }
-{
-    let mut next = at;
-    let mut i: usize = 0;
-    while i < bytes.len() {
-        next = put_pair(bytes[i], text, next);
-        i += 1;
-    }
-    next
-}
+// A byte: its two digits.
+impl Spelled for u8 {
+    ghost characters = { pair };
 
-// A byte as the line showed it: two dashes where nothing drove it.
-fn put_shown_pair(byte: u8, driven: u8, text: &mut [u8], at: usize) -> usize
-    requires { at + 2 ≤ length text.old }
-    ensures { Put at (shown_pair byte driven) text.old text.new result }
-{
-    if driven == 0 {
-        return put(&[b'-', b'-'], text, at);
+    fn put(self, text: &mut [u8], at: usize) -> usize {
+        put(&[digit(self / 16), digit(self % 16)], text, at)
     }
-    put_pair(byte, text, at)
-}
-
-// Each byte so, without gaps.
-fn put_shown(bytes: &[u8], driven: &[u8], text: &mut [u8], at: usize) -> usize
-    requires driven_len { length driven.now ≡ length bytes.now }
-    requires driven_in_bounds { at + length (shown_hex bytes.now driven.now) ≤ length text.old }
-    ensures { Put at (shown_hex bytes.now driven.now) text.old text.new result }
-{
-    let mut next = at;
-    let mut i: usize = 0;
-    while i < bytes.len() {
-        next = put_shown_pair(bytes[i], driven[i], text, next);
-        i += 1;
-    }
-    next
 }
 
 // A number below 100,000: its last digit behind the others.
@@ -84,29 +62,74 @@ fn put_decimal(number: u32, text: &mut [u8], at: usize) -> usize
     put(&[digit((number % 10) as u8)], text, last)
 }
 
-// A number behind a space.
-fn put_spaced(number: u32, text: &mut [u8], at: usize) -> usize
-    requires number_lt_decimal_end { number < decimal_end }
-    requires number_in_bounds { at + length (spaced number) ≤ length text.old }
-    ensures { Put at (spaced number) text.old text.new result }
-{
-    let begun = put(&[b' '], text, at);
-    put_decimal(number, text, begun)
+// Such a number: behind a space.
+// No type of its own: `put_decimals_line` takes every slice of `u32` with such numbers alone.
+impl Spelled for u32 {
+    ghost characters = { spaced };
+
+    ghost can_spell = { λ number. number < decimal_end };
+
+    fn put(self, text: &mut [u8], at: usize) -> usize {
+        let begun = put(&[b' '], text, at);
+        put_decimal(self, text, begun)
+    }
 }
 
-// Several numbers, each so.
-fn put_decimals(numbers: &[u32], text: &mut [u8], at: usize) -> usize
-    requires each { Each (λ n. n < decimal_end) numbers.now }
-    requires numbers_in_bounds { at + length (decimals numbers.now) ≤ length text.old }
-    ensures { Put at (decimals numbers.now) text.old text.new result }
-{
-    let mut next = at;
-    let mut i: usize = 0;
-    while i < numbers.len() {
-        next = put_spaced(numbers[i], text, next);
-        i += 1;
+// Several of a kind: one behind the other, without gaps.
+impl<T: Spelled + Copy> Spelled for &[T] {
+    ghost characters = { λ items. flat_map T.characters items.now };
+
+    ghost can_spell = { λ items. Each T.can_spell items.now };
+
+    fn put(self, text: &mut [u8], at: usize) -> usize {
+        let mut next = at;
+        for item in self {
+            next = item.put(text, next);
+        }
+        next
     }
-    next
+}
+
+// A byte as the line showed it: two dashes where nothing drove it.
+fn put_shown_pair(byte: u8, driven: u8, text: &mut [u8], at: usize) -> usize
+    requires { at + 2 ≤ length text.old }
+    ensures { Put at (shown_pair byte driven) text.old text.new result }
+{
+    if driven == 0 {
+        return put(&[b'-', b'-'], text, at);
+    }
+    byte.put(text, at)
+}
+
+// Bytes as the line showed them, and for each whether it was driven.
+// No slice of pairs: what a run fills are two slices, as C lends them.
+#[derive(Drop)]
+struct Shown<'a> {
+    bytes: &'a [u8],
+    driven: &'a [u8],
+}
+
+impl Spelled for Shown<'_> {
+    ghost characters = { λ shown. shown_hex shown.bytes.now shown.driven.now };
+
+    fn put(self, text: &mut [u8], at: usize) -> usize {
+        let mut next = at;
+        for (byte, driven) in self.bytes.iter().zip(self.driven) {
+            next = put_shown_pair(*byte, *driven, text, next);
+        }
+        next
+    }
+}
+
+// What opens a line, what it tells, and its end.
+fn put_line<T: Spelled>(opening: &[u8], told: T, text: &mut [u8], at: usize) -> usize
+    requires spelled { T.can_spell told }
+    requires room { at + length (opening.now ++ (T.characters told ++ (line_feed ∷ []))) ≤ length text.old }
+    ensures { Put at (opening.now ++ (T.characters told ++ (line_feed ∷ []))) text.old text.new result }
+{
+    let begun = put(opening, text, at);
+    let end = told.put(text, begun);
+    put(&[LINE_FEED], text, end)
 }
 
 // A letter and what bytes it stands for, in hex.
@@ -114,9 +137,7 @@ pub fn put_hex_line(letter: u8, bytes: &[u8], text: &mut [u8], at: usize) -> usi
     requires { at + length (line letter (hex bytes.now)) ≤ length text.old }
     ensures { Put at (line letter (hex bytes.now)) text.old text.new result }
 {
-    let begun = put(&[letter, b' '], text, at);
-    let told = put_hex(bytes, text, begun);
-    put(&[LINE_FEED], text, told)
+    put_line(&[letter, b' '], bytes, text, at)
 }
 
 // A letter and the bytes that the line showed, some of them silent.
@@ -125,9 +146,7 @@ pub fn put_shown_line(letter: u8, bytes: &[u8], driven: &[u8], text: &mut [u8], 
     requires driven_in_bounds { at + length (line letter (shown_hex bytes.now driven.now)) ≤ length text.old }
     ensures { Put at (line letter (shown_hex bytes.now driven.now)) text.old text.new result }
 {
-    let begun = put(&[letter, b' '], text, at);
-    let told = put_shown(bytes, driven, text, begun);
-    put(&[LINE_FEED], text, told)
+    put_line(&[letter, b' '], Shown { bytes, driven }, text, at)
 }
 
 // A letter and numbers below 100,000, each behind a space.
@@ -136,7 +155,5 @@ pub fn put_decimals_line(letter: u8, numbers: &[u32], text: &mut [u8], at: usize
     requires numbers_in_bounds { at + length (decimals_line letter numbers.now) ≤ length text.old }
     ensures { Put at (decimals_line letter numbers.now) text.old text.new result }
 {
-    let begun = put(&[letter], text, at);
-    let told = put_decimals(numbers, text, begun);
-    put(&[LINE_FEED], text, told)
+    put_line(&[letter], numbers, text, at)
 }

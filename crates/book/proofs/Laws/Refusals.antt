@@ -8,7 +8,8 @@ use native.Mathlib.Omega.{arith}
 use lib.Dec.{eqb, ltb}
 use lib.ListN.{length}
 use borrow.Author.Tests.{eqb-true, eq-eqb, ltb-true, lt-ltb, not-false}
-use Rattle.common.specs.Refusals.{first_of, Exactly}
+use Rattle.common.specs.declared.refusals.Refusal.{Refusal}
+use Rattle.common.specs.Refusals.{number_of, first_of, Exactly}
 use Rattle.common.proofs.Laws.Booleans.{and_l, and_r, and_i, or_none_l, or_none_r, or_none_i}
 use Rattle.common.proofs.Laws.Refusals.{clear, first_of_clear}
 use Rattle.chip.proofs.Laws.Chip.{regular}
@@ -17,6 +18,8 @@ use Rattle.state.specs.State.{data_of}
 use Rattle.state.specs.Soundness.{is_sound}
 use Rattle.book.specs.Refusals.{has_over, is_sector, book_refusals, book_refusal, Opened}
 use Rattle.book.proofs.Laws.Listed.{over_none, over_one}
+
+-- ---- a refusal has a number other than that of an accepted call
 
 -- ---- of each call
 

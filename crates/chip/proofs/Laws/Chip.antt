@@ -8,14 +8,15 @@ use mathlib.Core.Logic.{◌⊎◌, inl, inr, ⊎_elim}
 use Prim.Native.Nat.{ℕ, ◌%◌, ◌≤◌, ◌<◌}
 use native.Mathlib.Omega.{arith}
 use lib.Dec.{eqb}
-use borrow.Author.Tests.{eq-eqb, eqb-true, not-true}
+use borrow.Author.Tests.{eqb-true, not-true}
 use Rattle.common.specs.Lists.{Each}
 use Rattle.common.proofs.Laws.Booleans.{and_l, and_r, or_none_i, implies_elim}
 use Rattle.common.proofs.Laws.Choice.{cond_elim, cases}
 use Rattle.common.proofs.Laws.Lists.{split}
 use Rattle.common.proofs.Laws.Pairs.{◌▹◌}
 use Rattle.chip.specs.declared.Chip.{Chip}
-use Rattle.chip.specs.Kinds.{unknown, page_program, aai_program, ewsr, wrsr, wren, wrdi, deep_power_down}
+use Rattle.chip.specs.declared.kinds.Kind.{Kind}
+use Rattle.chip.specs.declared.kinds.Kind.TheVariants.{Unknown, PageProgram, AaiProgram, Ewsr, Wrsr, Wren, Wrdi, DeepPowerDown}
 use Rattle.chip.specs.Instructions.{instructions_008a, instructions_05pa, kind_in}
 use Rattle.chip.specs.Chip.{f25l008a, f25l05pa, Model, model_008a, model_05pa, models, model_in, is_known, chip_of, instructions_of, kind_of}
 
@@ -27,7 +28,7 @@ pub record Timed (chip : Chip) : Type 0 where
   pub by_pages : chip.word_plans ≡ false
   pub has_tb : chip.top_bottom ≡ true
 
-pub record Regular (chip : Chip) (kind : ℕ → ℕ) : Type 0 where
+pub record Regular (chip : Chip) (kind : ℕ → Kind) : Type 0 where
   -- ---- the array
   pub size_positive : 0 < chip.size
   pub size_le_mebibyte : chip.size ≤ 1048576
@@ -45,42 +46,58 @@ pub record Regular (chip : Chip) (kind : ℕ → ℕ) : Type 0 where
   -- ---- AAI and power-down: no chip has both
   pub aai_without_power_down : chip.aai ≡ true → chip.sleeps ≡ true → ⊥
   -- ---- only a chip that says so has these kinds
-  pub aai_program_needs_aai : (op : ℕ) → kind op ≡ aai_program → chip.aai ≡ true
-  pub ewsr_needs_ewsr : (op : ℕ) → kind op ≡ ewsr → chip.ewsr ≡ true
-  pub power_down_needs_sleeps : (op : ℕ) → kind op ≡ deep_power_down → chip.sleeps ≡ true
+  pub aai_program_needs_aai : (op : ℕ) → kind op ≡ AaiProgram → chip.aai ≡ true
+  pub ewsr_needs_ewsr : (op : ℕ) → kind op ≡ Ewsr → chip.ewsr ≡ true
+  pub power_down_needs_sleeps : (op : ℕ) → kind op ≡ DeepPowerDown → chip.sleeps ≡ true
   -- ---- WREN stands at 06 and nowhere else
-  pub wren_only_06 : (op : ℕ) → kind op ≡ wren → op ≡ 0x06
+  pub wren_only_06 : (op : ℕ) → kind op ≡ Wren → op ≡ 0x06
   -- ---- the opcodes that plans send
-  pub wren_is_06 : kind 0x06 ≡ wren
-  pub wrdi_is_04 : kind 0x04 ≡ wrdi
-  pub wrsr_is_01 : kind 0x01 ≡ wrsr
-  pub ewsr_is_50 : chip.ewsr ≡ true → kind 0x50 ≡ ewsr
-  pub aai_program_is_ad : chip.word_plans ≡ true → kind 0xad ≡ aai_program
-  pub page_program_is_02 : chip.word_plans ≡ false → kind 0x02 ≡ page_program
+  pub wren_is_06 : kind 0x06 ≡ Wren
+  pub wrdi_is_04 : kind 0x04 ≡ Wrdi
+  pub wrsr_is_01 : kind 0x01 ≡ Wrsr
+  pub ewsr_is_50 : chip.ewsr ≡ true → kind 0x50 ≡ Ewsr
+  pub aai_program_is_ad : chip.word_plans ≡ true → kind 0xad ≡ AaiProgram
+  pub page_program_is_02 : chip.word_plans ≡ false → kind 0x02 ≡ PageProgram
 
 -- ---- which opcodes have a kind
 
 -- every instruction whose kind passes a test has an opcode that passes another, and the unknown kind passes none: computed over a chip's instructions
-abbrev pub is_confined : (ℕ → Bool) → (ℕ → Bool) → List (ℕ × ℕ) → Bool
-is_confined kind allowed [] = not (kind unknown)
-is_confined kind allowed (i ∷ is) = (not (kind i.1) || allowed i.0) && is_confined kind allowed is
+abbrev pub is_confined : (Kind → Bool) → (ℕ → Bool) → List (ℕ × Kind) → Bool
+is_confined test allowed [] = not (test Unknown)
+is_confined test allowed (i ∷ is) = (not (test i.1) || allowed i.0) && is_confined test allowed is
 
-pub kind_confined : (kind allowed : ℕ → Bool) (is : List (ℕ × ℕ)) → is_confined kind allowed is ≡ true → (op : ℕ) → kind (kind_in is op) ≡ true → allowed op ≡ true
-kind_confined kind allowed [] all op = λ e. absurd (true≢false (sym e ∙ not-true (kind unknown) all))
-kind_confined kind allowed (i ∷ is) all op =
-    let here = and_l (not (kind i.1) || allowed i.0) (is_confined kind allowed is) all in
-    cond_elim (λ (found : ℕ). kind found ≡ true → allowed op ≡ true) (eqb op i.0)
-    (λ t e. ap allowed (eqb-true op i.0 t) ∙ implies_elim (kind i.1) (allowed i.0) here e)
-    (λ _. kind_confined kind allowed is (and_r (not (kind i.1) || allowed i.0) (is_confined kind allowed is) all) op)
+pub kind_confined : (test : Kind → Bool) (allowed : ℕ → Bool) (is : List (ℕ × Kind)) → is_confined test allowed is ≡ true → (op : ℕ) → test (kind_in is op) ≡ true → allowed op ≡ true
+kind_confined test allowed [] all op = λ e. absurd (true≢false (sym e ∙ not-true (test Unknown) all))
+kind_confined test allowed (i ∷ is) all op =
+    let here = and_l (not (test i.1) || allowed i.0) (is_confined test allowed is) all in
+    cond_elim (λ (found : Kind). test found ≡ true → allowed op ≡ true) (eqb op i.0)
+    (λ t e. ap allowed (eqb-true op i.0 t) ∙ implies_elim (test i.1) (allowed i.0) here e)
+    (λ _. kind_confined test allowed is (and_r (not (test i.1) || allowed i.0) (is_confined test allowed is) all) op)
+
+-- the tests for one kind
+abbrev is_aai_program : Kind → Bool
+is_aai_program AaiProgram = true
+is_aai_program other = false
+
+abbrev is_ewsr : Kind → Bool
+is_ewsr Ewsr = true
+is_ewsr other = false
+
+abbrev is_power_down : Kind → Bool
+is_power_down DeepPowerDown = true
+is_power_down other = false
+
+abbrev is_wren : Kind → Bool
+is_wren Wren = true
+is_wren other = false
 
 -- a kind that no instruction has
-lacked : (is : List (ℕ × ℕ)) (kind : ℕ) → is_confined (λ found. eqb found kind) (λ op. false) is ≡ true → (op : ℕ) → kind_in is op ≡ kind → ⊥
-lacked is kind none op e = false≢true (kind_confined (λ found. eqb found kind) (λ op. false) is none op (eq-eqb (kind_in is op) kind e))
+lacked : (is : List (ℕ × Kind)) (test : Kind → Bool) → is_confined test (λ op. false) is ≡ true → (op : ℕ) → test (kind_in is op) ≡ true → ⊥
+lacked is test none op e = false≢true (kind_confined test (λ op. false) is none op e)
 
 -- and one that a single opcode has
-single : (is : List (ℕ × ℕ)) (kind only : ℕ) → is_confined (λ found. eqb found kind) (λ op. eqb op only) is ≡ true → (op : ℕ) → kind_in is op ≡ kind → op ≡ only
-single is kind only one op e =
-    eqb-true op only (kind_confined (λ found. eqb found kind) (λ op. eqb op only) is one op (eq-eqb (kind_in is op) kind e))
+single : (is : List (ℕ × Kind)) (test : Kind → Bool) (only : ℕ) → is_confined test (λ op. eqb op only) is ≡ true → (op : ℕ) → test (kind_in is op) ≡ true → op ≡ only
+single is test only one op e = eqb-true op only (kind_confined test (λ op. eqb op only) is one op e)
 
 -- ---- each model
 
@@ -102,8 +119,8 @@ regular_008a = record {
   aai_without_power_down = λ _ e. false≢true e;
   aai_program_needs_aai = λ _ _. refl;
   ewsr_needs_ewsr = λ _ _. refl;
-  power_down_needs_sleeps = λ op e. absurd (lacked instructions_008a deep_power_down refl op e);
-  wren_only_06 = single instructions_008a wren 0x06 refl;
+  power_down_needs_sleeps = λ op e. absurd (lacked instructions_008a is_power_down refl op (ap is_power_down e));
+  wren_only_06 = λ op e. single instructions_008a is_wren 0x06 refl op (ap is_wren e);
   wren_is_06 = refl;
   wrdi_is_04 = refl;
   wrsr_is_01 = refl;
@@ -125,10 +142,10 @@ regular_05pa = record {
   status_le_sector_time = omega arith;
   timed = λ _. record { keeps_bits = refl; no_aai = refl; no_ewsr = refl; by_pages = refl; has_tb = refl };
   aai_without_power_down = λ e _. false≢true e;
-  aai_program_needs_aai = λ op e. absurd (lacked instructions_05pa aai_program refl op e);
-  ewsr_needs_ewsr = λ op e. absurd (lacked instructions_05pa ewsr refl op e);
+  aai_program_needs_aai = λ op e. absurd (lacked instructions_05pa is_aai_program refl op (ap is_aai_program e));
+  ewsr_needs_ewsr = λ op e. absurd (lacked instructions_05pa is_ewsr refl op (ap is_ewsr e));
   power_down_needs_sleeps = λ _ _. refl;
-  wren_only_06 = single instructions_05pa wren 0x06 refl;
+  wren_only_06 = λ op e. single instructions_05pa is_wren 0x06 refl op (ap is_wren e);
   wren_is_06 = refl;
   wrdi_is_04 = refl;
   wrsr_is_01 = refl;

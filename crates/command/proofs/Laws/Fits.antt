@@ -13,6 +13,27 @@ use Rattle.common.proofs.Laws.Choice.{cond_elim, cases}
 use Rattle.common.proofs.Laws.Booleans.{and_l, and_r}
 use Rattle.common.proofs.Laws.Pairs.{◌▹◌}
 use Rattle.state.specs.declared.State.{State}
+use Rattle.chip.specs.declared.kinds.Kind.{Kind}
+use Rattle.chip.specs.declared.kinds.Kind.TheVariants.{
+  Unknown,
+  Read,
+  FastRead,
+  SectorErase,
+  BlockErase,
+  ChipErase,
+  ByteProgram,
+  PageProgram,
+  AaiProgram,
+  Rdsr,
+  Ewsr,
+  Wrsr,
+  Wren,
+  Wrdi,
+  DeepPowerDown,
+  Res,
+  JedecId,
+  Rdid,
+}
 use Rattle.chip.specs.Chip.{kind_of}
 use Rattle.state.specs.State.{data_of}
 use Rattle.state.specs.Protection.{first_protected}
@@ -33,11 +54,11 @@ use Rattle.command.specs.declared.Command.TheVariants.{
   ProgramWord,
   Sleep,
 }
-use Rattle.command.specs.Command.{when, long, address, writable, erase, rows, aai_rows, by_kind, in_aai, command_of}
+use Rattle.command.specs.Command.{when, long, address, writable, erase, aai_rows, by_kind, in_aai, command_of}
 use Rattle.command.specs.Fits.{Resting, Open, Fits}
 use Rattle.command.proofs.Laws.Rows.{AllRows, look_elim}
 
--- ---- the rows fit
+-- ---- each row fits
 
 pub address_lt : (s : State) (f : List ℕ) → address s f < (data_of s).size
 unfolding address
@@ -58,29 +79,31 @@ module _ (s : State) (wp : Bool) (f : List ℕ) where
   erase_fits : (a n t : ℕ) → Resting s → t ≤ (data_of s).chip_time → Fits s (erase s a n t)
   erase_fits a n t r h = given (Erase a n t) (writable s (a + n)) (λ w. (r, (open_of s (a + n) w, h)))
 
-  rows_fit : Resting s → (op : ℕ) → AllRows (Fits s) (kind_of s.chip op) (rows s wp f)
-  rows_fit r op =
-      let a = address s f in
-      let k = regular s.chip in
-      (λ _. address_lt s f)
-      ▹ (λ _. address_lt s f)
-      ▹ (λ _. given _ (long f 4) (λ _. erase_fits (a / 4096 * 4096) 4096 90000 r k.sector_le_chip_time))
-      ▹ (λ _. given _ (long f 4) (λ _. erase_fits (a / 65536 * 65536) 65536 (data_of s).block_time r k.block_le_chip_time))
-      ▹ (λ _. given _ (long f 1) (λ _. erase_fits 0 (data_of s).size (data_of s).chip_time r (omega arith)))
-      ▹ (λ _. given _ (long f 5) (λ _. given (ProgramByte a) (writable s (a + 1)) (λ w. (r, open_of s (a + 1) w))))
-      ▹ (λ _. given _ (leb 5 (length f)) (λ _. given (ProgramPage a (length f - 4)) (writable s (a + 1)) (λ w. (r, open_of s (a + 1) w))))
-      ▹ (λ e. given _ (long f 6) (λ _. given (ProgramWord (a / 2 * 2) 4) (writable s (a / 2 * 2 + 2))
-      (λ w. (record { aai_had = k.aai_program_needs_aai op e; still = r.still; awake = r.awake; even = omega arith }, open_of s (a / 2 * 2 + 2) w))))
-      ▹ (λ _. tt)
-      ▹ (λ e. given Arm (long f 1) (λ _. (r, k.ewsr_needs_ewsr op e)))
-      ▹ (λ _. given _ (long f 2) (λ _. given _ s.armed (λ a. given (WriteStatus (get_or f 1 0) (data_of s).status_time) (not s.bpl || wp) (λ _. (r, (a, refl))))))
-      ▹ (λ _. given WriteEnable (long f 1) (λ _. r))
-      ▹ (λ _. given WriteDisable (long f 1) (λ _. r.still))
-      ▹ (λ e. given Sleep (long f 1) (λ _. (r, k.power_down_needs_sleeps op e)))
-      ▹ (λ _. tt)
-      ▹ (λ _. tt)
-      ▹ (λ _. tt)
-      ▹ tt
+  kind_fits : Resting s → (op : ℕ) (kind : Kind) → kind_of s.chip op ≡ kind → Fits s (by_kind s wp f kind)
+  unfolding by_kind
+  kind_fits r op Unknown e = tt
+  kind_fits r op Read e = address_lt s f
+  kind_fits r op FastRead e = address_lt s f
+  kind_fits r op SectorErase e = given _ (long f 4) (λ _. erase_fits (address s f / 4096 * 4096) 4096 90000 r (regular s.chip).sector_le_chip_time)
+  kind_fits r op BlockErase e = given _ (long f 4) (λ _. erase_fits (address s f / 65536 * 65536) 65536 (data_of s).block_time r (regular s.chip).block_le_chip_time)
+  kind_fits r op ChipErase e = given _ (long f 1) (λ _. erase_fits 0 (data_of s).size (data_of s).chip_time r (omega arith))
+  kind_fits r op ByteProgram e = given _ (long f 5) (λ _. given (ProgramByte (address s f)) (writable s (address s f + 1)) (λ w. (r, open_of s (address s f + 1) w)))
+  kind_fits r op PageProgram e =
+      given _ (leb 5 (length f)) (λ _. given (ProgramPage (address s f) (length f - 4)) (writable s (address s f + 1)) (λ w. (r, open_of s (address s f + 1) w)))
+  kind_fits r op AaiProgram e =
+      let even = address s f / 2 * 2 in
+      given _ (long f 6) (λ _. given (ProgramWord even 4) (writable s (even + 2))
+      (λ w. (record { aai_had = (regular s.chip).aai_program_needs_aai op e; still = r.still; awake = r.awake; even = omega arith }, open_of s (even + 2) w)))
+  kind_fits r op Rdsr e = tt
+  kind_fits r op Ewsr e = given Arm (long f 1) (λ _. (r, (regular s.chip).ewsr_needs_ewsr op e))
+  kind_fits r op Wrsr e =
+      given _ (long f 2) (λ _. given _ s.armed (λ a. given (WriteStatus (get_or f 1 0) (data_of s).status_time) (not s.bpl || wp) (λ _. (r, (a, refl)))))
+  kind_fits r op Wren e = given WriteEnable (long f 1) (λ _. r)
+  kind_fits r op Wrdi e = given WriteDisable (long f 1) (λ _. r.still)
+  kind_fits r op DeepPowerDown e = given Sleep (long f 1) (λ _. (r, (regular s.chip).power_down_needs_sleeps op e))
+  kind_fits r op Res e = tt
+  kind_fits r op JedecId e = tt
+  kind_fits r op Rdid e = tt
 
   -- no chip with AAI has power-down
   awake_in_aai : Sound s → s.aai ≡ true → s.power_down ≡ false
@@ -95,14 +118,14 @@ module _ (s : State) (wp : Bool) (f : List ℕ) where
       ▹ tt
 
   pub fits : Sound s → Fits s (command_of s wp f)
-  unfolding command_of in_aai by_kind
+  unfolding command_of in_aai
   fits h =
       let op = get_or f 0 0 in
       cond_elim (Fits s) (ltb 0 s.left) (λ _. look_elim (Fits s) tt ((0x05, ReadStatus) ∷ []) op ((λ _. tt), tt))
       (λ e. let z : s.left ≡ 0 = let l = ltb-false 0 s.left e in omega arith in
       cond_elim (Fits s) s.aai (λ a. look_elim (Fits s) tt (aai_rows s f) op (aai_fits h z a op))
       (λ a. cond_elim (Fits s) s.power_down (λ _. look_elim (Fits s) tt ((0xab, ReadSignature) ∷ []) op ((λ _. tt), tt))
-      (λ d. look_elim (Fits s) tt (rows s wp f) (kind_of s.chip op) (rows_fit record { still = z; single = a; awake = d } op))))
+      (λ d. kind_fits record { still = z; single = a; awake = d } op (kind_of s.chip op) refl)))
 
 -- AAI's next address leaves room for a word
 pub next_low : (s : State) → Sound s → s.next < 2097152

@@ -1,4 +1,4 @@
--- Which table a frame is looked up in, by what the chip is doing; and what the tests of a row say.
+-- Where a frame is looked up, by what the chip is doing; and what the tests of a row say.
 -- Assumes nothing.
 use mathlib.Core.Path.{◌≡◌, refl}
 use mathlib.Core.Bool.{Bool, true, false, ◌&&◌}
@@ -13,7 +13,7 @@ use Rattle.state.specs.declared.State.{State}
 use Rattle.state.specs.State.{data_of}
 use Rattle.state.specs.Protection.{first_protected}
 use Rattle.command.specs.declared.Command.TheVariants.{ReadStatus, ReadSignature}
-use Rattle.command.specs.Command.{address, writable, look, rows, by_kind, aai_rows, in_aai, command_of}
+use Rattle.command.specs.Command.{address, writable, look, by_kind, aai_rows, in_aai, command_of}
 use Rattle.command.specs.Fits.{Resting}
 
 module _ (s : State) (f : List ℕ) where
@@ -39,6 +39,6 @@ module _ (s : State) (f : List ℕ) where
     seen_asleep still single asleep = rw (still, single, asleep) refl
 
     -- the opcode's kind decides
-    pub seen_at_rest : Resting s → command_of s wp f ≡ look (rows s wp f) (kind_of s.chip (get_or f 0 0))
-    unfolding command_of by_kind
+    pub seen_at_rest : Resting s → command_of s wp f ≡ by_kind s wp f (kind_of s.chip (get_or f 0 0))
+    unfolding command_of
     seen_at_rest r = rw (r.still, r.single, r.awake) refl

@@ -16,7 +16,7 @@ use Rattle.state.specs.State.{data_of}
 use Rattle.state.specs.Protection.{first_protected}
 use Rattle.state.proofs.Laws.Protection.{first_border}
 use Rattle.command.specs.declared.Command.TheVariants.{WriteEnable, WriteDisable, Arm, WriteStatus, ProgramPage, ProgramWord}
-use Rattle.command.specs.Command.{address, writable, command_of}
+use Rattle.command.specs.Command.{address, writable, by_kind, command_of}
 use Rattle.command.specs.Fits.{Resting, Open}
 use Rattle.command.proofs.Laws.Modes.{seen_at_rest, seen_in_aai}
 
@@ -39,20 +39,25 @@ module _ (s : State) (wp : Bool) where
 
   module _ (r : Resting s) where
     pub wren_taken : command_of s wp (0x06 ∷ []) ≡ WriteEnable
+    unfolding by_kind
     wren_taken = rw (seen_at_rest s (0x06 ∷ []) wp r, (regular s.chip).wren_is_06) refl
 
     pub wrdi_taken : command_of s wp (0x04 ∷ []) ≡ WriteDisable
+    unfolding by_kind
     wrdi_taken = rw (seen_at_rest s (0x04 ∷ []) wp r, (regular s.chip).wrdi_is_04) refl
 
     pub ewsr_taken : (data_of s).ewsr ≡ true → command_of s wp (0x50 ∷ []) ≡ Arm
+    unfolding by_kind
     ewsr_taken e = rw (seen_at_rest s (0x50 ∷ []) wp r, (regular s.chip).ewsr_is_50 e) refl
 
     -- armed, and not with BPL 1 while WP is low
     pub wrsr_taken : (byte : ℕ) → s.armed ≡ true → not s.bpl || wp ≡ true → command_of s wp (0x01 ∷ byte ∷ []) ≡ WriteStatus byte (data_of s).status_time
+    unfolding by_kind
     wrsr_taken byte a e = rw (seen_at_rest s (0x01 ∷ byte ∷ []) wp r, (regular s.chip).wrsr_is_01, a, e) refl
 
     pub first_word_taken : (a x y : ℕ) → (data_of s).word_plans ≡ true → a % 2 ≡ 0 → Open s (a + 2)
         → command_of s wp (0xad ∷ (address_bytes a ++ (x ∷ y ∷ []))) ≡ ProgramWord a 4
+    unfolding by_kind
     first_word_taken a x y words even o =
         let low : a < (data_of s).size = omega (arith, (first_border s).in_size, o.free) in
         let same : a / 2 * 2 ≡ a = omega arith in
@@ -67,6 +72,7 @@ module _ (s : State) (wp : Bool) where
 
     pub page_taken : (a x : ℕ) (sent : List ℕ) → (data_of s).word_plans ≡ false → Open s (a + 1)
         → command_of s wp (0x02 ∷ (address_bytes a ++ (x ∷ sent))) ≡ ProgramPage a (length (x ∷ sent))
+    unfolding by_kind
     page_taken a x sent pages o =
         let low : a < (data_of s).size = omega (arith, (first_border s).in_size, o.free) in
         let f : List ℕ = 0x02 ∷ (address_bytes a ++ (x ∷ sent)) in

@@ -9,9 +9,14 @@ use Prim.Native.Nat.{ℕ, ◌<◌}
 use native.Mathlib.Omega.{arith}
 use lib.Dec.{ltb, eqb}
 use borrow.Author.Tests.{eqb-true, eqb-false, ltb-true}
-use Rattle.common.specs.Refusals.{first_of, Exactly}
+use Rattle.common.specs.declared.refusals.Refusal.{Refusal}
+use Rattle.common.specs.Refusals.{first_of, number_of, Exactly}
 use Rattle.common.proofs.Laws.Booleans.{or_none_l, or_none_r}
 use Rattle.common.proofs.Laws.Choice.{cases}
+
+-- a refusal's number is above 0
+pub number_some : (refusal : Refusal) → 0 < number_of refusal
+number_some refusal = grind arith
 
 -- ---- none of them holds
 

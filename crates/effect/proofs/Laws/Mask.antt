@@ -93,7 +93,7 @@ all_below x y m h = omega arith
 none_below : (x y m : ℕ) → x < y → min (x - y) m ≡ 0
 none_below x y m h = omega arith
 
-pub mask_length_counts : (e : Effect) (size : ℕ) → (span_of e).hi ≤ size → mask_length e ≡ count_below (touches e) size
+pub mask_length_counts : (e : Effect) (size : ℕ) → (span_of e).end ≤ size → mask_length e ≡ count_below (touches e) size
 unfolding touches mask_length
 mask_length_counts Keep size h = sym (count_none (λ k. false) size (λ i l. refl))
 mask_length_counts (Fill a n) size h = sym (count_within a n size ∙ all_below size a n h)
@@ -109,8 +109,8 @@ pub mask_place_lt : (e : Effect) (k : ℕ) → touches e k ≡ true → mask_pla
 mask_place_lt e k t =
     let here : count_below (touches e) (k + 1) ≡ mask_place e k + 1 = count_turn (touches e) k ∙ rw t refl in
     let span = touched_in_span e k t in
-    let upto = count_le_count (touches e) (k + 1) (span_of e).hi (omega arith) in
-    omega (arith, mask_length_counts e (span_of e).hi (omega arith))
+    let upto = count_le_count (touches e) (k + 1) (span_of e).end (omega arith) in
+    omega (arith, mask_length_counts e (span_of e).end (omega arith))
 
 -- the addresses of an erase or a straight program, in order
 pub mask_place_fill : (a n k : ℕ) → touches (Fill a n) k ≡ true → mask_place (Fill a n) k ≡ k - a

@@ -78,10 +78,10 @@ module _ (a n : ℕ) where
   page_straight h = rw (le-leb n (256 - a % 256) (omega arith)) refl
 
   -- any data does
-  pub page_below_end : (span_of (page_effect a n)).hi ≤ a / 256 * 256 + 256
+  pub page_below_end : (span_of (page_effect a n)).end ≤ a / 256 * 256 + 256
   unfolding page_effect
   page_below_end =
-      cond_elim (λ (e : Effect). (span_of e).hi ≤ a / 256 * 256 + 256) (leb n (256 - a % 256)) (λ t. omega (arith, leb-true n (256 - a % 256) t))
+      cond_elim (λ (e : Effect). (span_of e).end ≤ a / 256 * 256 + 256) (leb n (256 - a % 256)) (λ t. omega (arith, leb-true n (256 - a % 256) t))
       (λ _. omega arith)
 
   pub page_supplied : (f : List ℕ) → 4 + n ≤ length f → Supplied (page_effect a n) f

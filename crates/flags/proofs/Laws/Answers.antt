@@ -1,7 +1,7 @@
 -- What the calls about names answer: as a refusal and where there is none, and that two answers to one call are equal.
 -- Assumes nothing.
 use mathlib.Core.Path.{◌≡◌, refl, sym, ap, ap₂, ◌∙◌}
-use mathlib.Core.Bool.{Bool, true, false, not}
+use mathlib.Core.Bool.{Bool, cond, true, false, not}
 use mathlib.Core.List.{List, [], ◌∷◌, ◌++◌}
 use Prim.Native.Nat.{ℕ, ◌+◌, ◌≤◌, ◌<◌}
 use native.Mathlib.Omega.{arith}
@@ -27,7 +27,8 @@ use Rattle.book.specs.Refusals.{is_sector}
 use Rattle.book.proofs.Laws.Refusals.{sector_fits}
 use Rattle.names.specs.Records.{is_name, names_of, records_bytes}
 use Rattle.names.specs.Search.{is_on, Searched}
-use Rattle.names.specs.declared.search.Search.{Search}
+use Rattle.std.specs.Prelude.{Result, Ok, Err}
+use Rattle.std.specs.Result.{is_ok}
 use Rattle.names.proofs.Laws.Front.{name_most}
 use Rattle.names.proofs.Laws.Names.{names_split}
 use Rattle.names.proofs.Laws.Padded.{padded_long}
@@ -68,10 +69,14 @@ unfolding is_name_read
 is_read_is array sector name = refl
 
 -- as a search in it tells
-pub name_found : (array : List ℕ) (sector : ℕ) (name image : List ℕ) (r : Search) → image ≡ sector_part array sector → Searched image name r
-    → r.found ≡ is_name_read array sector name
+pub name_found : (array : List ℕ) (sector : ℕ) (name image : List ℕ) (r : Result ℕ ℕ) → image ≡ sector_part array sector → Searched image name r
+    → is_ok r ≡ is_name_read array sector name
 name_found array sector name image r is searched =
-    searched.found_is ∙ ap (λ (l : List ℕ). is_on name (names_of l)) is ∙ sym (is_read_is array sector name)
+    by r searched ∙ ap (λ (l : List ℕ). is_on name (names_of l)) is ∙ sym (is_read_is array sector name)
+  where
+    by : (r : Result ℕ ℕ) → Searched image name r → is_ok r ≡ is_on name (names_of image)
+    by (Ok at) found = sym found.0
+    by (Err end) none = sym none.0
 
 -- ---- the refusals about one name, and behind them a marking's
 
@@ -160,21 +165,21 @@ module _ (image : List ℕ) where
       let s = names_split image in
       ap (take (length (records_bytes true (names_of image)))) s.is ∙ take-append_seam (records_bytes true (names_of image)) s.rest
 
-  module _ (name : List ℕ) (r : Search) (searched : Searched image name r) where
-    pub found_wanted : r.found ≡ true → image ≡ wanted_mark image name
-    found_wanted e = sym (mark_there image name (sym searched.found_is ∙ e))
+  module _ (name : List ℕ) where
+    pub found_wanted : (at : ℕ) → Searched image name (Ok at) → image ≡ wanted_mark image name
+    found_wanted at found = sym (mark_there image name found.0)
 
     -- behind the records
-    pub appended_wanted : r.found ≡ false → (after : List ℕ) → after ≡ wanted_names image (take r.end image) (name ∷ []) → after ≡ wanted_mark image name
-    appended_wanted e after is =
-        is
-        ∙ ap (λ (l : List ℕ). wanted_names image l (name ∷ [])) (ap (λ (k : ℕ). take k image) (searched.end_is e) ∙ records_front)
-        ∙ sym (mark_appends image name (sym searched.found_is ∙ e))
+    module _ (end : ℕ) (none : Searched image name (Err end)) where
+      pub appended_wanted : (after : List ℕ) → after ≡ wanted_names image (take end image) (name ∷ []) → after ≡ wanted_mark image name
+      appended_wanted after is =
+          is ∙ ap (λ (l : List ℕ). wanted_names image l (name ∷ [])) (ap (λ (k : ℕ). take k image) none.1 ∙ records_front)
+          ∙ sym (mark_appends image name none.0)
 
-    pub appended_long : r.found ≡ false → r.end + (3 + length name) ≤ 4096 → length (wanted_mark image name) ≡ 4096
-    appended_long e fits =
-        ap length (mark_appends image name (sym searched.found_is ∙ e))
-        ∙ names_want_long image (records_bytes true (names_of image)) (name ∷ []) (omega (arith, fits, searched.end_is e, ap length (records_one true name)))
+      pub appended_long : end + (3 + length name) ≤ 4096 → length (wanted_mark image name) ≡ 4096
+      appended_long fits =
+          ap length (mark_appends image name none.0)
+          ∙ names_want_long image (records_bytes true (names_of image)) (name ∷ []) (omega (arith, fits, none.1, ap length (records_one true name)))
 
 -- ---- a marking
 
@@ -219,11 +224,14 @@ module _ (s : State) (array : List ℕ) (book sector : ℕ) (list : List ℕ) wh
     move_behind : move_refusal s array book sector list ≡ first_of long_row
     move_behind = move_refusal_of s array book sector list ∙ first_behind list_rows long_row (clear list_rows refl none)
 
-    pub move_full : are_too_long (moved_names array book list) ≡ true → move_refusal s array book sector list ≡ records_too_long
-    move_full e = move_behind ∙ rw e refl
+    -- as the laying of the records of the list tells
+    pub move_told : (read : List ℕ) → read ≡ list → (number : ℕ) → number ≡ cond (are_too_long (moved_names array book read)) records_too_long 0
+        → move_refusal s array book sector list ≡ number
+    move_told read same number e = move_behind ∙ sym (rw same at e)
 
-    pub move_none : are_too_long (moved_names array book list) ≡ false → move_refusal s array book sector list ≡ 0
-    move_none e = move_behind ∙ rw e refl
+pub short_enough : (long : Bool) → 0 ≡ cond long records_too_long 0 → long ≡ false
+short_enough true e = absurd (omega arith)
+short_enough false e = refl
 
 pub move_want_long : (image array : List ℕ) (book : ℕ) (list : List ℕ) → are_too_long (moved_names array book list) ≡ false
     → length (wanted_move image (is_read array book) (names_in (listed list))) ≡ 4096
@@ -277,6 +285,12 @@ module _ (s : State) (wp : Bool) (array : List ℕ) (sector book : ℕ) (list bu
   returns_refused n h e = record {
     plan = unless_refused back_number s wp array book back_want buffer n h e;
     unlisted_is = rw (ne_eqb n 0 (λ z. omega arith)) refl;
+  }
+
+  pub returns_none : (n : ℕ) → 0 < n → back_number ≡ n → BookReturns s wp array sector book list buffer buffer (returned_of (refused_plan n s) 0)
+  returns_none n h e = record {
+    plan = unless_refused back_number s wp array book back_want buffer n h e;
+    unlisted_is = let some = ne_eqb n 0 (λ z. omega arith) in rw some refl;
   }
 
   pub returns_planned : (after : List ℕ) (p : Planned) (n : ℕ) → back_number ≡ 0 → Plans s wp array book back_want buffer after p → n ≡ back_count

@@ -1,48 +1,51 @@
 -- `flags::move_there` meets its contract: a refusal, or the planner's answer for the sector with the records of the read scenes.
-use mathlib.Core.Path.{sym, ap, ◌∙◌}
+use mathlib.Core.Path.{◌≡◌, sym, ap, ◌∙◌}
 use mathlib.Core.Bool.{true}
 use native.Mathlib.Omega.{arith}
 use lib.ListN.{length}
-use borrow.Author.Tests.{not-true, not-false}
-use Rattle.sectors.proofs.Laws.Images.{sector_sliced, sector_long}
+use mathlib.Core.List.{List}
+use Prim.Native.Nat.{ℕ, ◌+◌, ◌≤◌}
+use Rattle.common.proofs.Laws.Refusals.{number_some}
+use Rattle.common.specs.Refusals.{first_of}
+use Rattle.state.specs.declared.State.{State}
+use Rattle.namechecks.specs.Refusals.{list_refusals}
+use Rattle.namechecks.specs.Opened.{ListOpened}
+use Rattle.sectors.proofs.Laws.Images.{sector_long}
 use Rattle.namechecks.proofs.Laws.Opened.{list_opened, book_fits, names_fit}
-use Rattle.flags.proofs.Laws.Answers.{move_own, move_full, move_none, move_want_long, moves_refused, moves_planned}
+use Rattle.flags.proofs.Laws.Answers.{move_own, move_told, short_enough, moves_refused, moves_planned}
 use Rattle.flags.proofs.move_there.Goals as goal
 
-pub returns-then-number-ne0 : goal.returns-then-number-ne0
-returns-then-number-ne0 c =
-    rw c.refuse_plan.ensures
-    (moves_refused _ _ _ _ _ _ _ _ (omega arith) (move_own _ _ _ _ _ _ (omega arith) (sym c.list_refusal-number.ensures)))
+module _ (s : State) (array : List ℕ) (book sector : ℕ) (list : List ℕ) (told : 0 ≡ first_of (list_refusals s array book sector list true)) where
+  opened : ListOpened s array book sector list true
+  opened = list_opened s array book sector list true (sym told)
 
-pub overflow_add-end : goal.overflow_add-end
-overflow_add-end c = omega (arith, names_fit _ _ _ _ _ _ (list_opened _ _ _ _ _ true (sym c.list_refusal-number.ensures ∙ c.if-number-ne0.false)))
+  inside : book + 512 ≤ length array
+  inside = omega (arith, book_fits s array book sector list true opened)
 
-pub slice_bounds-lay_move-end : goal.slice_bounds-lay_move-end
-slice_bounds-lay_move-end c = names_fit _ _ _ _ _ _ (list_opened _ _ _ _ _ true (sym c.list_refusal-number.ensures ∙ c.if-number-ne0.false))
+pub returns-in-Err : goal.returns-in-Err
+returns-in-Err c =
+    rw (c.refuse_plan.ensures, c.number.ensures)
+    (moves_refused _ _ _ _ _ _ _ _ (number_some c.in-Err.refusal) (move_own _ _ _ _ _ _ (number_some c.in-Err.refusal) (sym c.in-Err.ensures.number)))
+
+pub invariant_of-book : goal.invariant_of-book
+invariant_of-book c = record { inside = inside _ _ _ _ _ c.in-Ok.ensures.number }
+
+pub sector_at-requires : goal.sector_at-requires
+sector_at-requires c = names_fit _ _ _ _ _ _ (opened _ _ _ _ _ c.in-Ok.ensures.number)
 
 pub lay_move-requires : goal.lay_move-requires
 lay_move-requires c =
-    let opened = list_opened _ _ _ _ _ true (sym c.list_refusal-number.ensures ∙ c.if-number-ne0.false) in (
-      c.blank-records.ensures,
-      ap length (sector_sliced _ _) ∙ sector_long _ _ (names_fit _ _ _ _ _ _ opened),
-      omega (arith, book_fits _ _ _ _ _ _ opened),
-      opened.good,
-    )
+    (c.blank-wanted.ensures, ap length c.sector_at.ensures ∙ sector_long _ _ (names_fit _ _ _ _ _ _ (opened _ _ _ _ _ c.in-Ok.ensures.number)))
 
-pub returns-then-not-lay_move : goal.returns-then-not-lay_move
-returns-then-not-lay_move c =
-    let over = not-false _ (sym c.lay_move.ensures.fits_is ∙ c.if-not-lay_move.true) in
-    rw c.refuse_plan-then-not-lay_move.ensures
-    (moves_refused _ _ _ _ _ _ _ _ (omega arith) (move_full _ _ _ _ _ (sym c.list_refusal-number.ensures ∙ c.if-number-ne0.false) over))
-
-pub slice_bounds-plan_update-end : goal.slice_bounds-plan_update-end
-slice_bounds-plan_update-end c =
-    let fits = not-true _ (sym c.lay_move.ensures.fits_is ∙ c.if-not-lay_move.false) in
-    sym (ap length (c.lay_move.ensures.laid fits) ∙ move_want_long _ _ _ _ fits)
+pub returns-in-Err-lay_move : goal.returns-in-Err-lay_move
+returns-in-Err-lay_move c =
+    rw (c.refuse_plan-in-Err-lay_move.ensures, c.number-in-Err-lay_move.ensures)
+    (moves_refused _ _ _ _ _ _ _ _ (number_some c.in-Err-lay_move.refusal)
+    (move_told _ _ _ _ _ (sym c.in-Ok.ensures.number) _ c.in-Ok.ensures.read _ c.in-Err-lay_move.ensures.number_is))
 
 pub returns : goal.returns
 returns c =
-    let fits = not-true _ (sym c.lay_move.ensures.fits_is ∙ c.if-not-lay_move.false) in
+    let laid = c.in_default.ensures.laid (short_enough _ c.in_default.ensures.number_is) in
     moves_planned _ _ _ _ _ _ _ _ _
-    (move_none _ _ _ _ _ (sym c.list_refusal-number.ensures ∙ c.if-number-ne0.false) fits)
-    (rw (c.lay_move.ensures.laid fits, sector_sliced c.args.array.now c.args.sector) at c.plan_update.ensures)
+    (move_told _ _ _ _ _ (sym c.in-Ok.ensures.number) _ c.in-Ok.ensures.read _ c.in_default.ensures.number_is)
+    (rw (laid, c.sector_at.ensures, c.in-Ok.ensures.read) at c.plan_update.ensures)

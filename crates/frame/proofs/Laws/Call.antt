@@ -7,6 +7,8 @@ use Prim.Native.Nat.{ℕ, ◌<◌}
 use native.Mathlib.Omega.{arith}
 use lib.Dec.{eqb}
 use borrow.Author.Tests.{eqb-true, eq-eqb, ne_eqb}
+use Rattle.common.specs.declared.refusals.Refusal.{Refusal}
+use Rattle.common.specs.Refusals.{number_of}
 use Rattle.common.proofs.Laws.Choice.{cond_elim, yes, no}
 use Rattle.frame.specs.Device.{Device}
 use Rattle.frame.specs.Line.{Line}

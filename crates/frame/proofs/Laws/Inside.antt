@@ -32,11 +32,11 @@ use Rattle.effect.proofs.Laws.Straight.{page_below_end}
 use Rattle.frame.specs.Effect.{effect_of}
 
 -- what is protected is whole blocks, so that a page with one free address is free
-page_free : (s : State) (a n : ℕ) → a + 1 ≤ first_protected s → (span_of (page_effect a n)).hi ≤ first_protected s
+page_free : (s : State) (a n : ℕ) → a + 1 ≤ first_protected s → (span_of (page_effect a n)).end ≤ first_protected s
 page_free s a n h = omega (arith, page_below_end a n, (first_border s).blocks)
 
 -- a command that fits touches nothing protected
-pub effect_free : (s : State) (c : Command) → Fits s c → (span_of (effect_of c)).hi ≤ first_protected s
+pub effect_free : (s : State) (c : Command) → Fits s c → (span_of (effect_of c)).end ≤ first_protected s
 effect_free s Ignored k = omega arith
 effect_free s ReadStatus k = omega arith
 effect_free s (ReadArray a i) k = omega arith

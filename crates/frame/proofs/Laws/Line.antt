@@ -8,9 +8,9 @@ use native.Mathlib.Omega.{arith}
 use lib.Dec.{eqb}
 use lib.ListN.{length, get_or, length-append}
 use borrow.Author.Tests.{eqb-true, eq-eqb, not-false}
+use Rattle.std.specs.Prelude.{Option}
 use Rattle.common.proofs.Laws.Booleans.{or_none_l, or_none_r}
 use Rattle.common.proofs.Laws.Lists.{length_tab, get_d_tab}
-use Rattle.output.specs.declared.Shown.{Shown}
 use Rattle.output.specs.Output.{byte_of, driven_of}
 use Rattle.frame.specs.Line.{Line, showing, is_not_long, Long, no_line, joined}
 
@@ -20,7 +20,7 @@ line_same p q = λ i. record { output = p i; driven = q i }
 
 -- ---- what it shows
 
-module _ (n : ℕ) (shown : ℕ → Shown) where
+module _ (n : ℕ) (shown : ℕ → Option ℕ) where
   pub showing_long : Long n (showing n shown)
   showing_long = record { output_long = length_tab n (λ i. byte_of (shown i)); driven_long = length_tab n (λ i. driven_of (shown i)) }
 

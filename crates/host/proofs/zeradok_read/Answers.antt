@@ -9,7 +9,7 @@ returns c =
     let told = c.record_at.ensures in
     let made = c.record_of.ensures in
     record {
-      answer_is = made ∙ ap record_of told.answer_is;
+      answer_is = made ∙ ap (record_of c.args.offset) told.answer_is;
       number_is = ap (λ (r : Record). r.number) made ∙ told.number_is;
       kind_is = ap (λ (r : Record). r.kind) made ∙ told.kind_is;
       start_is = ap (λ (r : Record). r.start) made ∙ told.start_is;

@@ -1,18 +1,19 @@
 -- The laws of `listed`: the names of a list are read from their bytes, and from no others.
 -- Assumes nothing.
 use mathlib.Core.Path.{◌≡◌, refl, sym, ap, ◌∙◌}
-use mathlib.Core.Bool.{false}
+use mathlib.Core.Bool.{true, false}
 use mathlib.Core.List.{List, [], ◌∷◌, ◌++◌, append_assoc}
-use Prim.Native.Nat.{ℕ, zero, suc, ◌+◌, ◌≤◌, ◌<◌}
+use Prim.Native.Nat.{ℕ, zero, suc, ◌≤◌, ◌<◌}
 use native.Mathlib.Nat.{le_refl}
 use native.Mathlib.Omega.{arith}
 use lib.Dec.{leb, ltb}
-use lib.ListN.{length, length-append}
+use lib.ListN.{length, take, drop, length-append}
+use lib.Seq.{take_at, drop_at}
 use borrow.Author.Tests.{leb-true, le-leb, le-ltb}
 use Rattle.common.specs.Refusals.{Exactly}
 use Rattle.common.proofs.Laws.Choice.{cond_elim}
 use Rattle.common.proofs.Laws.Turns.{turns_same, by_length}
-use Rattle.names.specs.Records.{Front, none, item, front_body, AllNames}
+use Rattle.names.specs.Records.{Front, none, item, front_body, is_name, AllNames}
 use Rattle.names.proofs.Laws.Front.{body_exactly}
 use Rattle.namelist.specs.Listed.{
   Listed,
@@ -79,9 +80,6 @@ entries_none = refl
 pub entries_first : (name : List ℕ) (ns : List (List ℕ)) → entries_bytes (name ∷ ns) ≡ length name ∷ (name ++ entries_bytes ns)
 unfolding entries_bytes
 entries_first name ns = refl
-
-pub entries_length : (name : List ℕ) (ns : List (List ℕ)) → length (entries_bytes (name ∷ ns)) ≡ 1 + length name + length (entries_bytes ns)
-entries_length name ns = omega (arith, ap length (entries_first name ns), length-append name (entries_bytes ns))
 
 pub entries_append : (ms ns : List (List ℕ)) → entries_bytes (ms ++ ns) ≡ entries_bytes ms ++ entries_bytes ns
 unfolding entries_bytes
@@ -155,24 +153,6 @@ listing_good bytes ns l = rw (listing_names bytes ns l) l
 pub good_names : (bytes : List ℕ) → Good bytes → listed bytes ≡ names (names_in (listed bytes))
 good_names bytes good = (listed_exactly bytes (names_in (listed bytes))).only_when good
 
-pub good_count : (bytes : List ℕ) → Good bytes → count_in (listed bytes) ≡ length (names_in (listed bytes))
-good_count bytes good = ap count_in (good_names bytes good)
-
--- and at most 4,096 of them
-pub counted_good : (bytes : List ℕ) → count_in (listed bytes) ≤ 4096 → Good bytes
-counted_good bytes h = by (listed bytes) refl h
-  where
-    by : (l : Listed) → listed bytes ≡ l → count_in l ≤ 4096 → Listing bytes (names_in l)
-    by bad e h = absurd (omega arith)
-    by (names ns) e h = (listed_exactly bytes ns).when e
-
-pub bad_count : (bytes : List ℕ) → is_bad (listed bytes) ≡ ltb 4096 (count_in (listed bytes))
-bad_count bytes = by (listed bytes) refl
-  where
-    by : (l : Listed) → listed bytes ≡ l → is_bad l ≡ ltb 4096 (count_in l)
-    by bad e = refl
-    by (names ns) e = sym (le-ltb 4096 (length ns) ((listed_exactly bytes ns).when e).at_most)
-
 -- the lists that are not bad are the good ones
 pub good_exactly : (bytes : List ℕ) → Exactly (is_bad (listed bytes) ≡ false) (Good bytes)
 good_exactly bytes = record { when = by (listed bytes) refl; only_when = λ good. ap is_bad (good_names bytes good) }
@@ -180,3 +160,50 @@ good_exactly bytes = record { when = by (listed bytes) refl; only_when = λ good
     by : (l : Listed) → listed bytes ≡ l → is_bad l ≡ false → Listing bytes (names_in l)
     by bad e f = let z : ◌≡◌ {A = ℕ} 0 1 = cc in absurd (omega arith)
     by (names ns) e f = (listed_exactly bytes ns).when e
+
+-- ---- a good list, name by name
+
+pub good_none : (bytes : List ℕ) → length bytes ≡ 0 → names_in (listed bytes) ≡ []
+good_none [] e = ap names_in (listed_few [] ∙ ap few all_none)
+good_none (x ∷ bytes) e = absurd (omega arith)
+
+pub good_most : (bytes : List ℕ) → is_bad (listed bytes) ≡ false → length (names_in (listed bytes)) ≤ 4096
+good_most bytes good = ((good_exactly bytes).when good).at_most
+
+-- a bad list is one that counts more names than a list may have
+pub bad_count : (bytes : List ℕ) → is_bad (listed bytes) ≡ ltb 4096 (count_in (listed bytes))
+bad_count bytes = by (listed bytes) refl
+  where
+    by : (l : Listed) → listed bytes ≡ l → is_bad l ≡ ltb 4096 (count_in l)
+    by bad e = refl
+    by (names ns) e = sym (le-ltb 4096 (length ns) ((listed_exactly bytes ns).when e).at_most)
+
+-- its first name, and the list behind it
+pub record First (bytes : List ℕ) (n : ℕ) (rest : List ℕ) : Type 0 where
+  pub inside : n ≤ length rest
+  pub good : is_name (take n rest) ≡ true
+  pub names_are : names_in (listed bytes) ≡ take n rest ∷ names_in (listed (drop n rest))
+  pub behind : is_bad (listed (drop n rest)) ≡ false
+
+first_of : (n : ℕ) (rest : List ℕ) (ns : List (List ℕ)) → names_in (listed (n ∷ rest)) ≡ ns → Listing (n ∷ rest) ns → First (n ∷ rest) n rest
+first_of n rest [] e l = cc (l.is ∙ entries_none)
+first_of n rest (name ∷ others) e l =
+    let is : n ∷ rest ≡ length name ∷ (name ++ entries_bytes others) = l.is ∙ entries_first name others in
+    let long : n ≡ length name = cc is in
+    let body : rest ≡ name ++ entries_bytes others = cc is in
+    let first : take n rest ≡ name = rw body (take_at name (entries_bytes others) n (sym long)) in
+    let behind : listed (drop n rest) ≡ names others = (listed_exactly (drop n rest) others).only_when record {
+      good = l.good.1;
+      at_most = omega (arith, l.at_most);
+      is = rw body (drop_at name (entries_bytes others) n (sym long));
+    } in
+    record {
+      inside = omega (arith, long, ap length body, length-append name (entries_bytes others));
+      good = ap is_name first ∙ l.good.0;
+      names_are = rw (first, ap names_in behind) e;
+      behind = ap is_bad behind;
+    }
+
+pub good_first : (bytes : List ℕ) (n x : ℕ) (rest : List ℕ) → is_bad (listed bytes) ≡ false → bytes ≡ x ∷ rest → n ≡ x → First bytes n rest
+good_first bytes n x rest good e same =
+    rw (e, sym same) (first_of n rest (names_in (listed (n ∷ rest))) refl ((good_exactly (n ∷ rest)).when (rw (e, sym same) at good)))

@@ -1,19 +1,22 @@
--- The laws of `position_in`: a name's position is that of its first place, and where it has none, how many names there are. The search by turns.
+-- The laws of `position_in`: a name's position is that of its first place, and where it has none, how many names there are.
 -- Assumes nothing.
-use mathlib.Core.Path.{◌≡◌, refl, sym, ap, ◌∙◌}
-use mathlib.Core.Bool.{true, false, false≢true}
+use mathlib.Core.Path.{◌≡◌, refl, sym, ◌∙◌}
+use mathlib.Core.Bool.{true, false, cond, false≢true}
 use mathlib.Core.List.{List, [], ◌∷◌}
 use Prim.Native.Nat.{ℕ, suc, ◌+◌, ◌≤◌, ◌<◌}
 use native.Mathlib.Omega.{arith}
-use lib.Dec.{ltb, leb-suc-suc}
-use lib.ListN.{length, get_or, take, drop}
-use borrow.Author.Tests.{lt-ltb}
+use lib.Dec.{eqb, ltb, leb-suc-suc}
+use lib.ListN.{length, get_or}
+use lib.Pointwise.{pointwise}
+use borrow.Author.Tests.{lt-ltb, ltb-true}
+use Rattle.std.specs.Prelude.{Some, None}
+use Rattle.std.specs.List.{position_or_len}
+use Rattle.std.proofs.lemmas.List.Recursion.{is_position_or_len}
 use Rattle.common.proofs.Laws.Booleans.{or_imp}
 use Rattle.common.proofs.Laws.Choice.{cases}
 use Rattle.names.specs.Search.{same_bytes, is_on}
-use Rattle.names.proofs.Laws.Search.{same_exactly, on_none, on_first}
-use Rattle.namelist.specs.Listed.{listed, names_in, position_in, Good}
-use Rattle.namelist.proofs.Laws.Reading.{Reading, Turn, reading_start, reading_turn, reading_end}
+use Rattle.names.proofs.Laws.Search.{same_pointwise, same_exactly, on_none, on_first}
+use Rattle.namelist.specs.Listed.{position_in, found_in}
 
 pub position_none : (name : List ℕ) → position_in name [] ≡ 0
 unfolding position_in
@@ -27,6 +30,10 @@ module _ (name first : List ℕ) (others : List (List ℕ)) where
   pub position_later : same_bytes name first ≡ false → position_in name (first ∷ others) ≡ suc (position_in name others)
   unfolding position_in
   position_later e = rw e refl
+
+position_turn : (name first : List ℕ) (others : List (List ℕ)) → position_in name (first ∷ others) ≡ cond (pointwise eqb name first) 0 (1 + position_in name others)
+unfolding position_in
+position_turn name first others = let e : 1 + position_in name others ≡ suc (position_in name others) = omega arith in rw (e, same_pointwise name first) refl
 
 -- a name is one of them exactly where its position is one of theirs
 pub on_position : (name : List ℕ) (ns : List (List ℕ)) → ltb (position_in name ns) (length ns) ≡ is_on name ns
@@ -52,46 +59,24 @@ position_most name (first ∷ others) =
     (λ t. omega (arith, position_first name first others t))
     (λ f. omega (arith, position_later name first others f, position_most name others))
 
--- ---- a search in a good list, by turns: none of the names passed is the one
+-- as `position` of an iterator tells it
+pub found_position : (name : List ℕ) (ns : List (List ℕ))
+    → (let at = position_or_len (pointwise eqb name) ns in cond (ltb at (length ns)) (Some at) None) ≡ found_in name ns
+found_position name ns =
+    rw (sym (is_position_or_len (position_in name) (pointwise eqb name) (position_none name) (position_turn name) ns), on_position name ns) refl
 
-pub record Seeking (list name : List ℕ) (at position : ℕ) : Type 0 where
-  pub left : List (List ℕ)
-  pub reading : Reading list at left
-  pub passed : position ≤ at
-  pub is : position + position_in name left ≡ position_in name (names_in (listed list))
+-- one that is found has its place, and it is on the list; else it is not
+pub record Found (name : List ℕ) (ns : List (List ℕ)) (k : ℕ) : Type 0 where
+  pub on : is_on name ns ≡ true
+  pub position : k ≡ position_in name ns
+  pub inside : k < length ns
 
-pub seeking_start : (list name : List ℕ) → Good list → Seeking list name 0 0
-seeking_start list name good = record { left = names_in (listed list); reading = reading_start list good; passed = omega arith; is = omega arith }
+pub found_some : (name : List ℕ) (ns : List (List ℕ)) (k : ℕ) → Some k ≡ found_in name ns → Found name ns k
+found_some name ns k e =
+    cases (is_on name ns)
+    (λ t. let same : k ≡ position_in name ns = cc (rw t at e) in
+    record { on = t; position = same; inside = omega (arith, same, ltb-true (position_in name ns) (length ns) (on_position name ns ∙ t)) })
+    (λ f. cc (rw f at e))
 
-module _ (list name : List ℕ) (at position : ℕ) (s : Seeking list name at position) where
-  module _ (h : at < length list) where
-    turn : Turn list at s.left
-    turn = reading_turn list at s.left s.reading h
-
-    pub seeking_inside : at + 1 + get_or list at 0 ≤ length list
-    seeking_inside = omega (arith, turn.inside, turn.long)
-
-    -- the name at the place
-    module _ (other : List ℕ) (other_is : other ≡ take (get_or list at 0) (drop (at + 1) list)) where
-      is_name_lem : other ≡ turn.name
-      is_name_lem = other_is ∙ turn.name_is
-
-      is_first : position + position_in name (other ∷ turn.rest) ≡ position_in name (names_in (listed list))
-      is_first = rw is_name_lem (ap (λ (ns : List (List ℕ)). position + position_in name ns) (sym turn.names_are) ∙ s.is)
-
-      pub seeking_fits : at + (1 + length other) ≤ length list
-      seeking_fits = omega (arith, turn.inside, ap length is_name_lem)
-
-      pub seeking_found : same_bytes name other ≡ true → position ≡ position_in name (names_in (listed list))
-      seeking_found e = omega (arith, is_first, position_first name other turn.rest e)
-
-      pub seeking_turn : same_bytes name other ≡ false → Seeking list name (at + (1 + length other)) (position + 1)
-      seeking_turn e = record {
-        left = turn.rest;
-        reading = rw is_name_lem turn.behind;
-        passed = omega (arith, s.passed);
-        is = omega (arith, is_first, position_later name other turn.rest e);
-      }
-
-  pub seeking_end : length list ≤ at → position ≡ position_in name (names_in (listed list))
-  seeking_end h = omega (arith, s.is, ap (position_in name) (reading_end list at s.left s.reading h), position_none name)
+pub found_none : (name : List ℕ) (ns : List (List ℕ)) → None ≡ found_in name ns → is_on name ns ≡ false
+found_none name ns e = cases (is_on name ns) (λ t. cc (rw t at e)) (λ f. f)

@@ -1,20 +1,20 @@
--- Prints of names: made byte by byte, looked for one by one, and a name on a list has its print among theirs.
+-- Prints of names: made byte by byte, kept one by one, and a name on a list has its print among theirs.
 -- Assumes nothing.
 use mathlib.Core.Path.{◌≡◌, refl, sym, ap, ◌∙◌}
-use mathlib.Core.Bool.{Bool, true, false, false≢true, true≢false, or_assoc, ◌||◌}
+use mathlib.Core.Bool.{true, false, false≢true, true≢false}
 use mathlib.Core.List.{List, [], ◌∷◌, ◌++◌}
 use Prim.Native.Nat.{ℕ, ◌+◌, ◌*◌, ◌%◌, ◌≤◌, ◌<◌}
 use native.Mathlib.Numerals.{add-one}
-use native.Mathlib.Omega.{arith}
 use lib.Dec.{eqb}
 use lib.ListN.{length, get_or, take, drop, set, drop_of_length-le}
 use lib.Seq.{drop-cons, take-suc-set}
 use borrow.Author.Tests.{eq-eqb}
-use Rattle.common.proofs.Laws.Booleans.{or_imp, or_true, or_false}
+use Rattle.std.specs.List.{list_any}
+use Rattle.common.proofs.Laws.Booleans.{or_imp, or_true}
 use Rattle.common.proofs.Laws.Choice.{cases}
 use Rattle.names.specs.Search.{same_bytes, is_on}
 use Rattle.names.proofs.Laws.Search.{same_exactly, on_none, on_first}
-use Rattle.namelist.specs.Twice.{print_from, print_of, prints_of, is_printed}
+use Rattle.namelist.specs.Twice.{print_from, print_of, prints_of}
 
 -- ---- a print, from what is made of it at a place
 
@@ -30,21 +30,6 @@ module _ (name : List ℕ) (print i : ℕ) where
   pub print_end : length name ≤ i → print_from print (drop i name) ≡ print
   unfolding print_from
   print_end h = rw (drop_of_length-le name h) refl
-
--- ---- a print among others: it is found, or it is one of those from a place on
-
-abbrev pub Sought : List ℕ → ℕ → Bool → ℕ → Type 0
-Sought prints print found i = (i ≤ length prints) × ((found || is_printed print (drop i prints)) ≡ is_printed print prints)
-
-module _ (prints : List ℕ) (print : ℕ) (found : Bool) (i : ℕ) (s : Sought prints print found i) where
-  pub sought_turn : i < length prints → Sought prints print (found || eqb (get_or prints i 0) print) (i + 1)
-  unfolding is_printed
-  sought_turn h =
-      (omega arith, or_assoc found (eqb (get_or prints i 0) print) (is_printed print (drop (i + 1) prints)) ∙ rw (add-one i) (rw (drop-cons prints i 0 h) at s.1))
-
-  pub sought_end : length prints ≤ i → found ≡ is_printed print prints
-  unfolding is_printed
-  sought_end h = sym (or_false found) ∙ (rw (drop_of_length-le prints h) at s.1)
 
 -- ---- the prints of names
 
@@ -63,8 +48,8 @@ pub prints_stored : (ns : List (List ℕ)) (name prints : List ℕ) (n : ℕ) �
 prints_stored ns name prints n h e =
     rw (add-one n) (take-suc-set prints n (print_of name) h ∙ ap (λ (l : List ℕ). l ++ (print_of name ∷ [])) e ∙ sym (prints_last ns name))
 
-on_printed : (name : List ℕ) (ns : List (List ℕ)) → is_on name ns ≡ true → is_printed (print_of name) (prints_of ns) ≡ true
-unfolding prints_of is_printed
+on_printed : (name : List ℕ) (ns : List (List ℕ)) → is_on name ns ≡ true → list_any (λ print. eqb print (print_of name)) (prints_of ns) ≡ true
+unfolding prints_of
 on_printed name [] e = absurd (false≢true (sym (on_none name) ∙ e))
 on_printed name (first ∷ others) e =
     cases (same_bytes name first)
@@ -73,5 +58,5 @@ on_printed name (first ∷ others) e =
     (or_true (eqb (print_of first) (print_of name))))
 
 -- so a name whose print is none of theirs is none of them
-pub print_new : (name : List ℕ) (ns : List (List ℕ)) → is_printed (print_of name) (prints_of ns) ≡ false → is_on name ns ≡ false
+pub print_new : (name : List ℕ) (ns : List (List ℕ)) → list_any (λ print. eqb print (print_of name)) (prints_of ns) ≡ false → is_on name ns ≡ false
 print_new name ns f = cases (is_on name ns) (λ t. absurd (true≢false (sym (on_printed name ns t) ∙ f))) (λ g. g)

@@ -9,6 +9,7 @@ use lib.Dec.{eqb, leb}
 use lib.ListN.{length, get_or, take, drop, length-append, take-append-drop}
 use lib.Seq.{take-append_seam, drop-append_seam, length-take-le, drop_at}
 use borrow.Author.Tests.{eqb-true, leb-true, le-leb, lt-leb}
+use Rattle.std.specs.Prelude.{Some, None}
 use Rattle.common.specs.Refusals.{Exactly}
 use Rattle.common.proofs.Laws.Booleans.{and_l, and_r, and_i}
 use Rattle.common.proofs.Laws.Choice.{cond_elim}
@@ -167,23 +168,24 @@ item_long bytes {name} {rest} e =
       rest_is = rw i.is (sym (drop_at (record_bytes true name) rest (3 + length name) headed));
     }
 
--- the reader's length is 0 exactly where there is none
-pub none_exactly : (bytes : List ℕ) → Exactly (front_length (front bytes) ≡ 0) (front bytes ≡ none)
+-- the reader has no length exactly where there is none
+pub none_exactly : (bytes : List ℕ) → Exactly (front_length (front bytes) ≡ None) (front bytes ≡ none)
 none_exactly bytes = record { when = by (front bytes); only_when = λ e. rw e refl }
   where
-    by : (f : Front) → front_length f ≡ 0 → f ≡ none
+    by : (f : Front) → front_length f ≡ None → f ≡ none
     by none h = refl
-    by (item name rest) h = absurd (omega arith)
+    by (item name rest) h = cc h
 
 -- and else a record's
-pub record Found (bytes : List ℕ) : Type 0 where
+pub record Found (bytes : List ℕ) (n : ℕ) : Type 0 where
   pub name : List ℕ
   pub rest : List ℕ
   pub is : front bytes ≡ item name rest
+  pub size : n ≡ 3 + length name
 
-pub found : (bytes : List ℕ) → (front_length (front bytes) ≡ 0 → ⊥) → Found bytes
-found bytes h = by (front bytes) refl h
+pub found : (bytes : List ℕ) (n : ℕ) → Some n ≡ front_length (front bytes) → Found bytes n
+found bytes n h = by (front bytes) refl h
   where
-    by : (f : Front) → front bytes ≡ f → (front_length f ≡ 0 → ⊥) → Found bytes
-    by none e h = absurd (h refl)
-    by (item name rest) e h = record { name = name; rest = rest; is = e }
+    by : (f : Front) → front bytes ≡ f → Some n ≡ front_length f → Found bytes n
+    by none e h = cc h
+    by (item name rest) e h = record { name = name; rest = rest; is = e; size = cc h }

@@ -1,14 +1,13 @@
 -- A name among others: two names are the same exactly where they are equal, and a name is on a list exactly where it stands at some index.
 -- Assumes nothing.
 use mathlib.Core.Path.{◌≡◌, refl, sym, ap, ◌∙◌}
-use mathlib.Core.Bool.{Bool, true, false, false≢true, true≢false, or_assoc, ◌||◌}
+use mathlib.Core.Bool.{Bool, true, false, false≢true, true≢false, or_assoc, ◌&&◌, ◌||◌}
 use mathlib.Core.List.{List, [], ◌∷◌, ◌++◌}
-use Prim.Native.Nat.{ℕ, zero, suc, ◌+◌, ◌≤◌, ◌<◌}
+use Prim.Native.Nat.{ℕ, zero, suc, ◌<◌}
 use native.Mathlib.Omega.{arith}
 use lib.Dec.{eqb}
 use lib.ListN.{length, get_or}
-use lib.Seq.{ext_get_or}
-use borrow.Author.Count.{below_none, below_more}
+use lib.Pointwise.{pointwise}
 use borrow.Author.Tests.{eq-eqb, eqb-true}
 use Rattle.common.specs.Refusals.{Exactly}
 use Rattle.common.proofs.Laws.Booleans.{and_l, and_r, and_i, or_imp, or_true}
@@ -16,6 +15,14 @@ use Rattle.common.proofs.Laws.Choice.{cases}
 use Rattle.names.specs.Search.{same_bytes, is_on}
 
 -- ---- the same bytes
+
+-- as `==` of two slices tells it
+pub same_pointwise : (xs ys : List ℕ) → pointwise eqb xs ys ≡ same_bytes xs ys
+unfolding same_bytes
+same_pointwise [] [] = refl
+same_pointwise [] (y ∷ ys) = refl
+same_pointwise (x ∷ xs) [] = refl
+same_pointwise (x ∷ xs) (y ∷ ys) = ap (λ (t : Bool). eqb x y && t) (same_pointwise xs ys)
 
 pub same_refl : (xs : List ℕ) → same_bytes xs xs ≡ true
 unfolding same_bytes
@@ -45,36 +52,6 @@ same_sym xs ys =
     cases (same_bytes ys xs)
     (λ t. (same_exactly xs ys).only_when (sym ((same_exactly ys xs).when t)) ∙ sym t)
     (λ f. (differ_exactly xs ys).only_when (λ e. (differ_exactly ys xs).when f (sym e)) ∙ sym f)
-
--- ---- a comparison by turns: names of one length agree before a place
-
-pub record Agree (xs ys : List ℕ) (i : ℕ) : Type 0 where
-  pub long : length xs ≡ length ys
-  pub inside : i ≤ length xs
-  pub passed : (k : ℕ) → k < i → get_or xs k 0 ≡ get_or ys k 0
-
-module _ (xs ys : List ℕ) where
-  pub agree_start : length xs ≡ length ys → Agree xs ys 0
-  agree_start e = record { long = e; inside = omega arith; passed = below_none (λ (k : ℕ). get_or xs k 0 ≡ get_or ys k 0) }
-
-  -- of other lengths they differ
-  pub differ_long : (length xs ≡ length ys → ⊥) → false ≡ same_bytes xs ys
-  differ_long h = sym ((differ_exactly xs ys).only_when (λ e. h (ap length e)))
-
-  -- and where a byte does
-  pub differ_at : (i : ℕ) → (get_or xs i 0 ≡ get_or ys i 0 → ⊥) → false ≡ same_bytes xs ys
-  differ_at i h = sym ((differ_exactly xs ys).only_when (λ e. h (ap (λ (l : List ℕ). get_or l i 0) e)))
-
-  module _ (i : ℕ) (a : Agree xs ys i) where
-    pub agree_turn : i < length xs → get_or xs i 0 ≡ get_or ys i 0 → Agree xs ys (i + 1)
-    agree_turn h e = record {
-      long = a.long;
-      inside = omega arith;
-      passed = below_more (λ (k : ℕ). get_or xs k 0 ≡ get_or ys k 0) i a.passed e;
-    }
-
-    pub agree_end : length xs ≤ i → true ≡ same_bytes xs ys
-    agree_end h = sym ((same_exactly xs ys).only_when (ext_get_or 0 xs ys a.long (λ k l. a.passed k (omega arith))))
 
 -- ---- a name on a list
 

@@ -7,7 +7,8 @@ use mathlib.Core.Logic.{⊎_elim}
 use Prim.Native.Nat.{ℕ, zero, suc, ◌+◌, ◌-◌, ◌≤◌}
 use native.Mathlib.Omega.{arith}
 use lib.ListN.{length, get_or, take, drop, length-append, length-drop}
-use lib.Seq.{take-append_seam, drop-drop}
+use lib.Seq.{take-append_seam, take_at, drop-drop}
+use Rattle.std.specs.Prelude.{Some, None}
 use Rattle.common.proofs.Laws.Lists.{split, get_d_front, get_d_behind}
 use Rattle.names.specs.Records.{is_name, front, front_length, names_of, record_bytes, records_bytes}
 use Rattle.names.proofs.Laws.Front.{front_item, item_long, none_exactly, found}
@@ -78,35 +79,36 @@ pub record Step (bytes : List ℕ) (at n : ℕ) (done : List (List ℕ)) : Type 
   pub size : n ≡ 3 + length name
   pub fits : at + n ≤ length bytes
   pub name_is : take (at + n - (at + 3)) (drop (at + 3) bytes) ≡ name
+  pub record_is : take (3 + length name) (drop at bytes) ≡ record_bytes true name
   pub next_is : names_of (drop at bytes) ≡ name ∷ names_of (drop (at + n) bytes)
   pub passed : Passed bytes (at + n) (done ++ (name ∷ []))
 
-pub passed_turn : (bytes : List ℕ) (at n : ℕ) (done : List (List ℕ)) → Passed bytes at done → n ≡ front_length (front (drop at bytes)) → (n ≡ 0 → ⊥)
+pub passed_turn : (bytes : List ℕ) (at n : ℕ) (done : List (List ℕ)) → Passed bytes at done → Some n ≡ front_length (front (drop at bytes))
     → Step bytes at n done
-passed_turn bytes at n done p is some =
-    let f = found (drop at bytes) (λ z. some (is ∙ z)) in
+passed_turn bytes at n done p some =
+    let f = found (drop at bytes) n some in
     let i = front_item (drop at bytes) f.is in
     let l = item_long (drop at bytes) f.is in
-    let size : n ≡ 3 + length f.name = is ∙ ap front_length f.is in
-    let next : drop (at + n) bytes ≡ f.rest = sym (drop-drop n at bytes) ∙ ap (λ (k : ℕ). drop k (drop at bytes)) size ∙ sym l.rest_is in
+    let next : drop (at + n) bytes ≡ f.rest = sym (drop-drop n at bytes) ∙ ap (λ (k : ℕ). drop k (drop at bytes)) f.size ∙ sym l.rest_is in
     let name_there : drop (at + 3) bytes ≡ f.name ++ f.rest = sym (drop-drop 3 at bytes) ∙ ap (drop 3) i.is in
-    let count : at + n - (at + 3) ≡ length f.name = omega arith in
+    let count : at + n - (at + 3) ≡ length f.name = omega (arith, f.size) in
     let onward : names_of (drop at bytes) ≡ f.name ∷ names_of (drop (at + n) bytes) = names_item (drop at bytes) f.is ∙ ap (λ (l : List ℕ). f.name ∷ names_of l) (sym next) in
     record {
       name = f.name;
       good = i.good;
-      size = size;
-      fits = omega (arith, l.in_all, length-drop at bytes, p.inside);
+      size = f.size;
+      fits = omega (arith, f.size, l.in_all, length-drop at bytes, p.inside);
       name_is = rw (count, name_there) (take-append_seam f.name f.rest);
+      record_is = ap (take (3 + length f.name)) i.is ∙ take_at (record_bytes true f.name) f.rest (3 + length f.name) (omega arith);
       next_is = onward;
       passed = record {
-        inside = omega (arith, l.in_all, length-drop at bytes, p.inside);
-        at_is = omega (arith, p.at_is, ap length (records_append true done (f.name ∷ [])), length-append (records_bytes true done) (records_bytes true (f.name ∷ [])), ap length (records_one true f.name));
+        inside = omega (arith, f.size, l.in_all, length-drop at bytes, p.inside);
+        at_is = omega (arith, f.size, p.at_is, ap length (records_append true done (f.name ∷ [])), length-append (records_bytes true done) (records_bytes true (f.name ∷ [])), ap length (records_one true f.name));
         names_are = p.names_are ∙ ap (λ (l : List (List ℕ)). done ++ l) onward ∙ sym (append_assoc done (f.name ∷ []) (names_of (drop (at + n) bytes)));
       };
     }
 
 -- no record more
-pub passed_end : (bytes : List ℕ) (at : ℕ) (done : List (List ℕ)) → Passed bytes at done → 0 ≡ front_length (front (drop at bytes)) → names_of bytes ≡ done
-passed_end bytes at done p is =
-    p.names_are ∙ ap (λ (l : List (List ℕ)). done ++ l) (names_none (drop at bytes) ((none_exactly (drop at bytes)).when (sym is))) ∙ append-nil done
+pub passed_end : (bytes : List ℕ) (at : ℕ) (done : List (List ℕ)) → Passed bytes at done → None ≡ front_length (front (drop at bytes)) → names_of bytes ≡ done
+passed_end bytes at done p none_left =
+    p.names_are ∙ ap (λ (l : List (List ℕ)). done ++ l) (names_none (drop at bytes) ((none_exactly (drop at bytes)).when (sym none_left))) ∙ append-nil done

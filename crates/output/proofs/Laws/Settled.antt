@@ -34,7 +34,7 @@ use Rattle.command.specs.declared.Command.TheVariants.{
   Sleep,
 }
 use Rattle.command.specs.contracts.Command.{the_type}
-use Rattle.output.specs.declared.Shown.TheVariants.{Silent}
+use Rattle.std.specs.Prelude.{None}
 use Rattle.output.specs.Output.{shown_at}
 use Rattle.output.specs.Runs.{NoRead, SameFrom}
 
@@ -44,7 +44,7 @@ use Rattle.output.specs.Runs.{NoRead, SameFrom}
 abbrev pub silent : List ℕ
 silent = 0 ∷ 2 ∷ 6 ∷ 7 ∷ 8 ∷ 9 ∷ 10 ∷ 11 ∷ 12 ∷ 13 ∷ 14 ∷ []
 
-pub silent_shown : (s : State) (c : Command) (m : ℕ → ℕ) (i : ℕ) → NoRead c → OneOf silent (tag_of the_type c) → shown_at s c m i ≡ Silent
+pub silent_shown : (s : State) (c : Command) (m : ℕ → ℕ) (i : ℕ) → NoRead c → OneOf silent (tag_of the_type c) → shown_at s c m i ≡ None
 unfolding shown_at
 silent_shown s Ignored m i r h = refl
 silent_shown s ReadStatus m i r h = absurd (miss silent 1 tt h)
@@ -95,10 +95,6 @@ settled s Sleep m no_read no_turns i l = refl
 pub same_from_four : (c : Command) → NoRead c → NoTurns c → (count : ℕ) → SameFrom c (min 4 count) count
 same_from_four c no_read no_turns count s m i l h =
     let four : min 4 count ≡ 4 = omega (arith, l, h) in rw four (settled s c m no_read no_turns i (omega (arith, l, h)))
-
--- all of them are looked at
-pub same_from_end : (c : Command) (count : ℕ) → SameFrom c count count
-same_from_end c count s m i l h = absurd (omega (arith, l, h))
 
 -- ---- a slice laid to its end
 

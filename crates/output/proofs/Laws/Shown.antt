@@ -23,11 +23,11 @@ use Rattle.command.specs.declared.Command.TheVariants.{
   ProgramWord,
   Sleep,
 }
-use Rattle.output.specs.declared.Shown.TheVariants.{Silent}
+use Rattle.std.specs.Prelude.{None}
 use Rattle.output.specs.Output.{since, read_at, jedec, identity, shown_at}
 
 module _ (s : State) (m : ℕ → ℕ) (i : ℕ) where
-  pub shows_ignored : shown_at s Ignored m i ≡ Silent
+  pub shows_ignored : shown_at s Ignored m i ≡ None
   unfolding shown_at
   shows_ignored = refl
 
@@ -51,38 +51,38 @@ module _ (s : State) (m : ℕ → ℕ) (i : ℕ) where
   unfolding shown_at
   shows_read_identity odd = refl
 
-  pub shows_write_enable : shown_at s WriteEnable m i ≡ Silent
+  pub shows_write_enable : shown_at s WriteEnable m i ≡ None
   unfolding shown_at
   shows_write_enable = refl
 
-  pub shows_write_disable : shown_at s WriteDisable m i ≡ Silent
+  pub shows_write_disable : shown_at s WriteDisable m i ≡ None
   unfolding shown_at
   shows_write_disable = refl
 
-  pub shows_arm : shown_at s Arm m i ≡ Silent
+  pub shows_arm : shown_at s Arm m i ≡ None
   unfolding shown_at
   shows_arm = refl
 
-  pub shows_write_status : (byte time : ℕ) → shown_at s (WriteStatus byte time) m i ≡ Silent
+  pub shows_write_status : (byte time : ℕ) → shown_at s (WriteStatus byte time) m i ≡ None
   unfolding shown_at
   shows_write_status byte time = refl
 
-  pub shows_erase : (address count time : ℕ) → shown_at s (Erase address count time) m i ≡ Silent
+  pub shows_erase : (address count time : ℕ) → shown_at s (Erase address count time) m i ≡ None
   unfolding shown_at
   shows_erase address count time = refl
 
-  pub shows_program_byte : (address : ℕ) → shown_at s (ProgramByte address) m i ≡ Silent
+  pub shows_program_byte : (address : ℕ) → shown_at s (ProgramByte address) m i ≡ None
   unfolding shown_at
   shows_program_byte address = refl
 
-  pub shows_program_page : (address count : ℕ) → shown_at s (ProgramPage address count) m i ≡ Silent
+  pub shows_program_page : (address count : ℕ) → shown_at s (ProgramPage address count) m i ≡ None
   unfolding shown_at
   shows_program_page address count = refl
 
-  pub shows_program_word : (address from : ℕ) → shown_at s (ProgramWord address from) m i ≡ Silent
+  pub shows_program_word : (address from : ℕ) → shown_at s (ProgramWord address from) m i ≡ None
   unfolding shown_at
   shows_program_word address from = refl
 
-  pub shows_sleep : shown_at s Sleep m i ≡ Silent
+  pub shows_sleep : shown_at s Sleep m i ≡ None
   unfolding shown_at
   shows_sleep = refl

@@ -1,28 +1,16 @@
 -- `output::emit` meets its contract: a read of the array in runs, every other command byte by byte until it no longer changes.
-use borrow.Enum.Refused.{opened}
-use mathlib.Core.List.{List, [], ◌∷◌}
 use Prim.Native.Nat.{ℕ, ◌+◌, ◌-◌, ◌%◌}
 use native.Mathlib.Omega.{arith}
-use types.Run.{miss}
 use Rattle.chip.proofs.Laws.Chip.{regular}
 use Rattle.state.specs.State.{data_of}
 use Rattle.output.specs.Output.{memory, shown_at}
 use Rattle.output.proofs.emit.Goals as goal
-
--- the variants of the last arm
-abbrev others : List ℕ
-others = 0 ∷ 1 ∷ 3 ∷ 4 ∷ 5 ∷ 6 ∷ 7 ∷ 8 ∷ 9 ∷ 10 ∷ 11 ∷ 12 ∷ 13 ∷ 14 ∷ []
 
 pub show_array-requires : goal.show_array-requires
 show_array-requires c =
     let below = rw c.in-ReadArray.is at c.requires.0 in
     let k = regular c.args.s.chip in
     (omega (arith, below, c.requires.1), omega (arith, k.size_positive, k.whole_blocks, c.requires.1, c.requires.2))
-
-pub show_each-requires : goal.show_each-requires
-show_each-requires c =
-    let told = c.in_default.in_default-own.keys2 in
-    (λ address silent e. miss others 2 tt (opened (rw e at told)), c.requires.3)
 
 pub returns-in-ReadArray : goal.returns-in-ReadArray
 unfolding shown_at

@@ -1,11 +1,15 @@
 -- The part of a page that step 3 sends: found by looking at its bytes, and its bytes as they are sent.
 -- Assumes nothing.
 use mathlib.Core.Path.{◌≡◌, refl, sym, ap, ◌∙◌}
-use mathlib.Core.Bool.{Bool, false, true≢false}
+use mathlib.Core.Bool.{Bool, true, false, not, true≢false}
 use mathlib.Core.List.{List, [], ◌∷◌, ◌++◌, append-nil}
 use mathlib.Core.Logic.{⊎_elim}
 use Prim.Native.Nat.{ℕ, suc, ◌+◌, ◌-◌, ◌≤◌, ◌<◌}
 use native.Mathlib.Omega.{arith}
+use lib.Dec.{ltb, eqb}
+use borrow.Author.Tests.{ltb-true, ltb-false, not-true, not-false}
+use Rattle.std.specs.Ordering.{is_lt, nat_cmp}
+use Rattle.common.proofs.Laws.Choice.{cases}
 use lib.ListN.{length, get_or, take, drop, length-drop}
 use lib.Seq.{ext_get_or, get_or-take, get_or-drop, length-take-le}
 use Rattle.common.specs.Lists.{tab}
@@ -15,16 +19,26 @@ use Rattle.script.proofs.Laws.Records.{encode_none, encode_front, encoded_frame}
 use Rattle.region.specs.Region.{wanted_at}
 use Rattle.common.specs.Numbers.{address_bytes}
 use Rattle.region.proofs.Laws.Region.{wanted_inside}
-use Rattle.pages.specs.declared.Part.{Part}
+use Rattle.std.specs.declared.ops.Range.{Range}
 use Rattle.pages.specs.Pages.{before_first, through_last, part_length, part_records}
 use Rattle.pages.specs.Parts.{First, Behind, PartIn, PagePart}
 use Rattle.pages.proofs.Laws.Spans.{first_is, last_is, last_none}
+
+-- what `is_empty` says of a range
+pub lt_test : (a b : ℕ) → is_lt (nat_cmp a b) ≡ ltb a b
+lt_test a b = cases (ltb a b) (λ e. rw e refl) (λ e. cases (eqb a b) (λ f. rw (e, f) refl) (λ f. rw (e, f) refl))
+
+pub none_in : (a b : ℕ) → true ≡ not (is_lt (nat_cmp a b)) → b ≤ a
+none_in a b e = ltb-false a b (not-true (ltb a b) (sym (rw (lt_test a b) at e)))
+
+pub some_in : (a b : ℕ) → false ≡ not (is_lt (nat_cmp a b)) → a < b
+some_in a b e = ltb-true a b (not-false (ltb a b) (sym (rw (lt_test a b) at e)))
 
 -- searched for from `from` on and below `to`, where nothing of the page changes outside
 pub page_part : (d : ℕ → Bool) (start : ℕ) (wanted : List ℕ) (page from to f t : ℕ)
     → start ≤ from → to ≤ start + length wanted → page ≤ from → to ≤ page + 256
     → ((k : ℕ) → page ≤ k → k < from → d k ≡ false) → ((k : ℕ) → to ≤ k → k < page + 256 → d k ≡ false)
-    → First d from to f → Behind d f to t → PagePart d start wanted page record { from = f; to = t }
+    → First d from to f → Behind d f to t → PagePart d start wanted page record { start = f; end = t }
 unfolding part_length
 page_part d start wanted page from to f t ls he lp hp before after first behind =
     ⊎_elim
@@ -44,17 +58,17 @@ page_part d start wanted page from to f t ls he lp hp before after first behind 
     record { inside = inside; long = omega arith; first = λ l. absurd (omega arith) })
     (split f to)
   where
-    inside : PartIn start wanted record { from = f; to = t }
+    inside : PartIn start wanted record { start = f; end = t }
     inside = record { low = omega arith; forth = omega arith; high = omega arith; short = omega arith }
 
 -- what it adds to the script is said by its own ends
-pub part_found : (w : ℕ → ℕ) (d : ℕ → Bool) (start : ℕ) (wanted : List ℕ) (page : ℕ) (part : Part) → PagePart d start wanted page part
-    → part_records w (page + before_first d 256 page) (part_length d page) ≡ part_records w part.from (part.to - part.from)
+pub part_found : (w : ℕ → ℕ) (d : ℕ → Bool) (start : ℕ) (wanted : List ℕ) (page : ℕ) (part : Range ℕ) → PagePart d start wanted page part
+    → part_records w (page + before_first d 256 page) (part_length d page) ≡ part_records w part.start (part.end - part.start)
 unfolding part_records
 part_found w d start wanted page part p =
     ⊎_elim (λ l. rw (p.long, p.first l) refl)
-    (λ l. let z : part_length d page ≡ 0 = omega (arith, p.long) in let y : part.to - part.from ≡ 0 = omega arith in rw (z, y) refl)
-    (split part.from part.to)
+    (λ l. let z : part_length d page ≡ 0 = omega (arith, p.long) in let y : part.end - part.start ≡ 0 = omega arith in rw (z, y) refl)
+    (split part.start part.end)
 
 -- its bytes as they are sent: the wanted ones are a part of the slice
 wanted_part_lem : (start : ℕ) (wanted : List ℕ) (from n : ℕ) → start ≤ from → from + n ≤ start + length wanted

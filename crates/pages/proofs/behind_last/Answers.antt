@@ -1,39 +1,15 @@
 -- `pages::behind_last` meets its contract: nothing changes at the addresses passed.
-use mathlib.Core.Path.{sym, ◌∙◌}
-use native.Mathlib.Omega.{arith}
-use Rattle.pages.proofs.Laws.Spans.{above_more}
+use mathlib.Core.Bool.{true, false}
+use mathlib.Core.Path.{◌≡◌}
+use Rattle.std.proofs.Common.{rules}
+use Rattle.pages.proofs.Laws.Search.{differs, behind_changes, last_from_range, behind_found}
 use Rattle.pages.proofs.behind_last.Goals as goal
-
-pub loop-address-init : goal.loop-address-init
-loop-address-init c = (omega arith, omega arith, λ k h l. absurd (omega arith))
-
-pub overflow_sub-address : goal.overflow_sub-address
-overflow_sub-address c = omega arith
-
-pub returns-then-changes : goal.returns-then-changes
-returns-then-changes c =
-    record {
-      low = omega arith;
-      high = omega arith;
-      after = c.loop-address.invariant.2;
-      here = λ _. sym c.changes.ensures ∙ c.if-changes.true;
-    }
-
-pub overflow_sub-address-in-loop-address : goal.overflow_sub-address-in-loop-address
-overflow_sub-address-in-loop-address c = omega arith
-
-pub loop-address-smaller : goal.loop-address-smaller
-loop-address-smaller c = omega arith
-
-pub loop-address-preserved : goal.loop-address-preserved
-loop-address-preserved c =
-    (omega arith, omega arith, above_more _ _ _ c.loop-address.invariant.2 (sym c.changes.ensures ∙ c.if-changes.false))
 
 pub returns : goal.returns
 returns c =
-    record {
-      low = omega arith;
-      high = omega arith;
-      after = c.loop-address.invariant.2;
-      here = λ l. absurd (omega arith);
-    }
+    let a = c.args in
+    let u = a.update.now in
+    let d = differs u.array.now u.start u.wanted.now a.from a.to c.requires.start_le_from c.requires.to_le_end in
+    behind_changes u.array.now u.start u.wanted.now a.from a.to c.requires.start_le_from c.requires.to_le_end c.map_or.result
+    (behind_found d a.from a.to c.requires.from_le_to c.rfind.result c.map_or.result (search rules)
+    (last_from_range _ c.rfind.new.self _ c.rfind.result (λ x. d x ≡ true) (λ x. d x ≡ false) c.rfind.ensures.ran (λ x q k. search rules) (λ x q k. search rules)))

@@ -1,36 +1,16 @@
 -- `pages::first_changing` meets its contract: nothing changes at the addresses passed.
-use mathlib.Core.Path.{sym, ◌∙◌}
-use native.Mathlib.Omega.{arith}
-use Rattle.pages.proofs.Laws.Spans.{below_more}
+use mathlib.Core.Bool.{true, false}
+use mathlib.Core.Path.{◌≡◌}
+use Rattle.std.proofs.Common.{rules}
+use Rattle.std.proofs.lemmas.Iterator.{first_from_Range}
+use Rattle.pages.proofs.Laws.Search.{differs, first_changes, first_found}
 use Rattle.pages.proofs.first_changing.Goals as goal
-
-pub loop-address-init : goal.loop-address-init
-loop-address-init c = (omega arith, omega arith, λ k h l. absurd (omega arith))
-
-pub returns-then-changes : goal.returns-then-changes
-returns-then-changes c =
-    record {
-      low = omega arith;
-      high = omega arith;
-      before = c.loop-address.invariant.2;
-      here = λ _. sym c.changes.ensures ∙ c.if-changes.true;
-    }
-
-pub overflow_add-address : goal.overflow_add-address
-overflow_add-address c = omega arith
-
-pub loop-address-smaller : goal.loop-address-smaller
-loop-address-smaller c = omega arith
-
-pub loop-address-preserved : goal.loop-address-preserved
-loop-address-preserved c =
-    (omega arith, omega arith, below_more _ _ _ c.loop-address.invariant.2 (sym c.changes.ensures ∙ c.if-changes.false))
 
 pub returns : goal.returns
 returns c =
-    record {
-      low = omega arith;
-      high = omega arith;
-      before = c.loop-address.invariant.2;
-      here = λ l. absurd (omega arith);
-    }
+    let a = c.args in
+    let u = a.update.now in
+    let d = differs u.array.now u.start u.wanted.now a.from a.to c.requires.start_le_from c.requires.to_le_end in
+    first_changes u.array.now u.start u.wanted.now a.from a.to c.requires.start_le_from c.requires.to_le_end c.unwrap_or.result
+    (first_found d a.from a.to c.requires.from_le_to c.find.result c.unwrap_or.result c.unwrap_or.ensures
+    (first_from_Range _ c.find.new.self _ c.find.result (λ x. d x ≡ true) (λ x. d x ≡ false) c.find.ensures.ran (λ x q k. search rules) (λ x q k. search rules)))

@@ -6,8 +6,8 @@ use Rattle.pages.proofs.page_part.Goals as goal
 
 pub returns : goal.returns
 returns c =
-    let a = c.args in
-    page_part _ a.start a.wanted.now a.page c.larger-from.result c.smaller-to.result c.first_changing-first.result c.behind_last-behind.result
+    let u = c.args.update.now in
+    page_part _ u.start u.wanted.now c.args.page c.max-from.result c.min-to.result c.first_changing-first.result c.behind_last-behind.result
     (omega arith) (omega arith) (omega arith) (omega arith)
     (λ k i l. changes_before _ _ _ k (omega arith)) (λ k i l. changes_behind _ _ _ k (omega arith))
     c.first_changing-first.ensures c.behind_last-behind.ensures

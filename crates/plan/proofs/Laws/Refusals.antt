@@ -1,17 +1,15 @@
 -- The refusals of a plan: each number exactly when 01 says, and what an accepted plan is.
 -- Assumes nothing.
-use mathlib.Core.Path.{◌≡◌, refl, sym, ap, ◌∙◌}
+use mathlib.Core.Path.{◌≡◌, refl, ◌∙◌}
 use mathlib.Core.Bool.{Bool, true, false, not, ◌&&◌, ◌||◌}
-use mathlib.Core.List.{List}
-use mathlib.Core.Logic.{⊎_elim}
-use Prim.Native.Nat.{ℕ, ◌+◌, ◌-◌, ◌≤◌, ◌<◌}
+use mathlib.Core.List.{List, [], ◌∷◌}
+use Prim.Native.Nat.{ℕ, ◌+◌, ◌<◌}
 use native.Mathlib.Omega.{arith}
 use lib.Dec.{ltb, eqb}
 use lib.ListN.{length}
 use borrow.Author.Tests.{lt-ltb, le-ltb, eq-eqb, ltb-true, ltb-false, eqb-true, not-false}
 use Rattle.common.specs.Refusals.{status_locked, buffer_too_short, first_of, Exactly}
-use Rattle.common.proofs.Laws.Booleans.{or_none_l, or_none_r, or_true}
-use Rattle.common.proofs.Laws.Lists.{split}
+use Rattle.common.proofs.Laws.Booleans.{or_none_l, or_none_r}
 use Rattle.common.proofs.Laws.Refusals.{Clear, clear, first_of_clear, Given, given_exactly, first_behind, first_before}
 use Rattle.script.specs.Record.{encode}
 use Rattle.state.specs.declared.State.{State}
@@ -22,20 +20,6 @@ use Rattle.region.specs.Region.{Inside}
 use Rattle.plan.specs.Plan.{step_one_needed, plan_records}
 use Rattle.plan.specs.Refusals.{is_active, is_locked, bytes_needed, region_refusals, script_refusals, plan_refusals, plan_refusal, RegionAccepted, Accepted}
 use Rattle.common.specs.Limits.{longest_wanted}
-
--- ---- refusal 6, without the sum
-
-pub region_out : (size start n : ℕ) → size < start → true ≡ (ltb longest_wanted n || ltb size (start + n))
-region_out size start n h = rw (lt-ltb size (start + n) (omega arith)) (sym (or_true (ltb longest_wanted n)))
-
-pub region_in : (size start n : ℕ) → start ≤ size → (ltb longest_wanted n || ltb (size - start) n) ≡ (ltb longest_wanted n || ltb size (start + n))
-region_in size start n h = ap (λ (t : Bool). ltb longest_wanted n || t) (⊎_elim (λ l. above l) (λ l. below l) (split (size - start) n))
-  where
-    above : size - start < n → ltb (size - start) n ≡ ltb size (start + n)
-    above l = lt-ltb (size - start) n l ∙ sym (lt-ltb size (start + n) (omega arith))
-
-    below : n ≤ size - start → ltb (size - start) n ≡ ltb size (start + n)
-    below l = le-ltb (size - start) n l ∙ sym (le-ltb size (start + n) (omega arith))
 
 module _ (s : State) (array : List ℕ) (start : ℕ) (wanted : List ℕ) where
   region_clear : first_of (region_refusals s array start wanted) ≡ 0 → Clear (region_refusals s array start wanted)
@@ -104,12 +88,15 @@ module _ (s : State) (array : List ℕ) (start : ℕ) (wanted : List ℕ) where
     unfolding plan_refusal is_locked
     refusal_locked e locked = first_behind (region_refusals s array start wanted) (script_refusals s wp array start wanted room) (region_clear e) ∙ rw locked refl
 
+    pub refusal_room : first_of (region_refusals s array start wanted) ≡ 0 → (step_one_needed s array start wanted && s.bpl && not wp) ≡ false
+        → plan_refusal s wp array start wanted room ≡ first_of ((buffer_too_short, ltb room (bytes_needed s array start wanted)) ∷ [])
+    unfolding plan_refusal is_locked
+    refusal_room e locked = first_behind (region_refusals s array start wanted) (script_refusals s wp array start wanted room) (region_clear e) ∙ rw locked refl
+
     pub refusal_short : first_of (region_refusals s array start wanted) ≡ 0 → (step_one_needed s array start wanted && s.bpl && not wp) ≡ false
         → room < length (encode (plan_records s array start wanted)) → plan_refusal s wp array start wanted room ≡ buffer_too_short
-    unfolding plan_refusal is_locked bytes_needed
-    refusal_short e locked short =
-        first_behind (region_refusals s array start wanted) (script_refusals s wp array start wanted room) (region_clear e)
-        ∙ rw (locked, lt-ltb room (length (encode (plan_records s array start wanted))) short) refl
+    unfolding bytes_needed
+    refusal_short e locked short = refusal_room e locked ∙ rw (lt-ltb room (length (encode (plan_records s array start wanted))) short) refl
 
     -- accepted: number 0, and the same in words
     pub of_accepted : Accepted s wp array start wanted room → plan_refusal s wp array start wanted room ≡ 0

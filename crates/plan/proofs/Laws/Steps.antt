@@ -1,15 +1,17 @@
 -- The steps of a plan: where step 1 is needed, what steps 1 and 4 add, and what step 2 or 3 is by the chip, how long, and where it is nothing.
 -- Assumes nothing.
-use mathlib.Core.Path.{◌≡◌, refl}
-use mathlib.Core.Bool.{Bool, true, false, cond, not, ◌&&◌}
+use mathlib.Core.Path.{◌≡◌, refl, sym, ◌∙◌}
+use mathlib.Core.Bool.{Bool, true, false, cond, not}
 use mathlib.Core.List.{List, [], ◌∷◌, ◌++◌, append-nil}
-use Prim.Native.Nat.{ℕ, ◌+◌, ◌*◌, ◌/◌, ◌≤◌, ◌<◌}
+use Prim.Native.Nat.{ℕ, ◌+◌, ◌-◌, ◌*◌, ◌/◌, ◌≤◌, ◌<◌}
 use native.Mathlib.Omega.{arith}
-use lib.Dec.{leb, ltb, eqb}
-use lib.ListN.{length, get_or}
-use borrow.Author.Tests.{leb-false, lt-leb, lt-ltb, ltb-false}
+use lib.Dec.{ltb, eqb}
+use lib.ListN.{length, get_or, take, drop, length-drop}
+use lib.Pointwise.{pointwise}
+use lib.Seq.{length-take-le}
+use borrow.Author.Tests.{leb-false, le-leb, lt-leb, lt-ltb, ltb-false}
 use Rattle.common.specs.Bits.{bit}
-use Rattle.common.proofs.Laws.Booleans.{and_off}
+use Rattle.common.proofs.Laws.Booleans.{and_off, and_true}
 use Rattle.common.proofs.Laws.Choice.{cases, cond_elim}
 use Rattle.common.proofs.Laws.Places.{within_bounds}
 use Rattle.common.specs.Limits.{longest_script, longest_wanted}
@@ -19,10 +21,10 @@ use Rattle.chip.proofs.Laws.Chip.{regular}
 use Rattle.state.specs.declared.State.{State}
 use Rattle.state.specs.State.{data_of}
 use Rattle.state.specs.Protection.{first_protected}
-use Rattle.region.specs.Region.{wanted_at, changes}
+use Rattle.region.specs.Region.{wanted_at, changes, any_of}
 use Rattle.script.specs.Measure.{measure_of, AtMost}
 use Rattle.script.specs.declared.measure.Measure.{Measure}
-use Rattle.region.proofs.Laws.Region.{change_in_region, any_false, any_none, changes_at}
+use Rattle.region.proofs.Laws.Region.{change_in_region, any_false, any_none, any_skip, changes_at, slice_at, differ_pair}
 use Rattle.words.specs.Words.{words_in, step_two}
 use Rattle.words.proofs.Laws.Words.{words_step_fits, words_step_most, words_step_frames_or_time, words_step_none, words_step_unchanged}
 use Rattle.words.proofs.Laws.Fewer.{words_no_longer}
@@ -32,10 +34,40 @@ use Rattle.pages.proofs.Laws.Region.{pages_step_most}
 use Rattle.pages.proofs.Laws.Fewer.{pages_no_longer}
 use Rattle.plan.specs.Plan.{is_protected_change, step_one_needed, status_byte, settle, status_records, status_step, program_step, wait_bytes, with_waits, with_status_steps}
 
--- whether step 1 is needed for the i-th byte of the region
-pub protected_at : (first : ℕ) (array : List ℕ) (start : ℕ) (wanted : List ℕ) (i : ℕ) → i < length wanted
-    → is_protected_change first array start wanted (start + i) ≡ (not (eqb (get_or array (start + i) 0) (get_or wanted i 0)) && leb first (start + i))
-protected_at first array start wanted i h = rw (changes_at array start wanted i h) refl
+-- step 1 is needed where the protected part of the region, from an address on, is not yet as wanted
+module _ (first : ℕ) (array : List ℕ) (start : ℕ) (wanted : List ℕ) (fits : start + length wanted ≤ length array)
+    (from : ℕ) (low : start ≤ from) (high : from ≤ start + length wanted) (some : from < start + length wanted → first ≤ from)
+    (before : (k : ℕ) → start ≤ k → k < from → k < first) where
+  abbrev old : List ℕ
+  old = take (start + length wanted - from) (drop from array)
+
+  abbrev new : List ℕ
+  new = take (length wanted - (from - start)) (drop (from - start) wanted)
+
+  long : length new ≡ length wanted - (from - start)
+  long = length-take-le (length wanted - (from - start)) (drop (from - start) wanted) (omega (arith, length-drop (from - start) wanted))
+
+  part_protected : (i : ℕ) → i < length new → is_protected_change first array start wanted (from + i) ≡ not (eqb (get_or old i 0) (get_or new i 0))
+  part_protected i l =
+      let here : i < length wanted - (from - start) = omega (arith, long) in
+      let place : start + (from - start + i) ≡ from + i = omega arith in
+      let changed : changes array start wanted (from + i) ≡ not (eqb (get_or array (from + i) 0) (get_or wanted (from - start + i) 0)) =
+      rw place at (changes_at array start wanted (from - start + i) (omega arith)) in
+      rw (
+        slice_at array from (start + length wanted - from) i (omega arith),
+        slice_at wanted (from - start) (length wanted - (from - start)) i here,
+        le-leb first (from + i) (omega arith),
+      ) (and_true _ ∙ changed)
+
+  pub part_differs : not (pointwise eqb old new) ≡ any_of (is_protected_change first array start wanted) (length wanted) start
+  part_differs =
+      let test : ℕ → Bool = is_protected_change first array start wanted in
+      let here : start + (from - start) ≡ from = omega arith in
+      let all : from - start + length new ≡ length wanted = omega (arith, long) in
+      let same : length old ≡ length new =
+      length-take-le (start + length wanted - from) (drop from array) (omega (arith, length-drop from array)) ∙ omega (arith, long) in
+      differ_pair test old new from same part_protected
+      ∙ sym (rw (here, all) at (any_skip test (from - start) (length new) start (λ k h l. rw (lt-leb first k (before k h (omega arith))) (cases (changes array start wanted k) (λ t. rw t refl) (λ f. rw f refl)))))
 
 module _ (s : State) (array : List ℕ) (start : ℕ) (wanted : List ℕ) where
   -- not needed: what changes is free

@@ -7,6 +7,11 @@ use Prim.Native.Nat.{ℕ, ◌<◌}
 use native.Mathlib.Omega.{arith}
 use lib.ListN.{length}
 use borrow.Author.Tests.{ne_eqb}
+use Rattle.std.specs.Prelude.{Ok, Err}
+use Rattle.common.proofs.Laws.Refusals.{number_some}
+use Rattle.common.specs.Refusals.{number_of}
+use Rattle.common.specs.declared.refusals.Refusal.{Refusal}
+use Rattle.common.specs.declared.refusals.Refusal.TheVariants.{StateNotSound, WrongArray, WrongFrame, WrongOutput, WrongMask, WrongRegion, NotAtRest, WantedRises, StatusLocked, BufferTooShort, ScriptTooLong, UnknownMark, WrongLength, CutShort, WrongBook, WrongNames, NameTwice, RecordsTooLong}
 use Rattle.script.specs.Record.{Record, encode}
 use Rattle.script.proofs.Laws.Records.{encoded_length, encode_none}
 use Rattle.script.proofs.Laws.Measure.{Counts, counts_none, measured}
@@ -19,11 +24,20 @@ use Rattle.common.proofs.Laws.Buffer.{written_front}
 use Rattle.state.specs.declared.Planned.{Planned}
 use Rattle.plan.specs.Plan.{plan_records}
 use Rattle.plan.specs.Refusals.{plan_refusal}
-use Rattle.plan.specs.Update.{given_records, PlanUpdated}
+use Rattle.plan.specs.Update.{given_records, Scripted, PlanUpdated}
 
 -- the length that was measured is that of the script
 pub measured_length : (rs : List Record) (m : Measure) → m ≡ measure_of rs → m.length ≡ length (encode rs)
 measured_length rs m e = rw e (sym (measured rs).bytes ∙ sym (encoded_length rs))
+
+-- the two outcomes, as the layer below leaves them
+module _ (rs : List Record) (buffer : List ℕ) where
+  pub scripted : (m : Measure) → m ≡ measure_of rs → (after : List ℕ) → after ≡ written 0 (encode rs) buffer → (number : ℕ) → number ≡ 0
+      → Scripted number rs buffer after (Ok m)
+  scripted m e after w number z = record { number_lem = sym z; measured = e; buffer_after = rw z w }
+
+  pub unscripted : (refusal : Refusal) (number : ℕ) → number ≡ number_of refusal → Scripted number rs buffer buffer (Err refusal)
+  unscripted refusal number e = record { number_lem = sym e; measured = tt; buffer_after = rw (e, ne_eqb (number_of refusal) 0 (λ z. omega (arith, number_some refusal))) refl }
 
 module _ (s : State) (wp : Bool) (array : List ℕ) (start : ℕ) (wanted buffer : List ℕ) where
   abbrev number : ℕ
@@ -64,6 +78,16 @@ module _ (s : State) (wp : Bool) (array : List ℕ) (start : ℕ) (wanted buffer
         microseconds = rw (given, q) (sym counted.microseconds);
         buffer_after = rw given (w ∙ written_front (encode (plan_records s array start wanted)) buffer);
       }
+
+  pub plan_scripted : (m : Measure) (after : List ℕ) → Scripted number (plan_records s array start wanted) buffer after (Ok m)
+      → PlanUpdated s wp array start wanted buffer after record { number = 0; state = s; length = m.length; frames = m.frames; microseconds = m.microseconds }
+  plan_scripted m after p = let accepted = sym p.number_lem in plan_accepted accepted m p.measured after (rw accepted at p.buffer_after)
+
+  pub plan_unscripted : (refusal : Refusal) (after : List ℕ) → Scripted number (plan_records s array start wanted) buffer after (Err refusal)
+      → PlanUpdated s wp array start wanted buffer after (refused_plan (number_of refusal) s)
+  plan_unscripted refusal after p =
+      let some = number_some refusal in
+      rw (rw (← p.number_lem, ne_eqb (number_of refusal) 0 (λ z. omega arith)) at p.buffer_after) (plan_refused (number_of refusal) some (sym p.number_lem))
 
   -- an accepted plan reports what its records amount to
   pub plan_counts : (after : List ℕ) (r : Planned) → PlanUpdated s wp array start wanted buffer after r → r.number ≡ 0

@@ -6,10 +6,11 @@ use Rattle.plan.proofs.Laws.Plan.{plan_measure}
 use Rattle.plan.proofs.measure_plan.Goals as goal
 
 pub with_status_steps-requires : goal.with_status_steps-requires
-with_status_steps-requires c =
-    let small = program_small _ _ _ _ c.requires.inside.short in
+with_status_steps-requires g c =
+    let small = program_small _ _ _ _ c.args.update.now.inside.short in
     let low = (regular c.args.s.chip).status_le_sector_time in
-    rw (c.measure_program.ensures, c.chip_of-chip.ensures) (small.0, small.1, small.2, low)
+    rw (c.measure.ensures, c.requires.program, c.chip_of-time.ensures) (small.0, small.1, small.2, low)
 
 pub returns : goal.returns
-returns c = rw (c.measure_program.ensures, c.chip_of-chip.ensures, c.requires.needed_value) at c.with_status_steps.ensures ∙ sym (plan_measure _ _ _ _)
+returns g c =
+    rw (c.measure.ensures, c.requires.program, c.chip_of-time.ensures, c.requires.needed_value) at c.with_status_steps.ensures ∙ sym (plan_measure _ _ _ _)

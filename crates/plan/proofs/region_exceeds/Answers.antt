@@ -1,9 +1,15 @@
--- `plan::region_exceeds` meets its contract: where the start is within the size, the sum is compared by a difference.
-use Rattle.plan.proofs.Laws.Refusals.{region_out, region_in}
+-- `plan::region_exceeds` meets its contract: a sum that does not fit is above every size.
+use mathlib.Core.Path.{◌≡◌, refl, sym}
+use Prim.Native.Nat.{◌+◌}
+use native.Mathlib.Omega.{arith}
+use borrow.Author.Tests.{lt-ltb}
+use lib.Dec.{ltb}
+use Rattle.common.proofs.Laws.Booleans.{or_true}
+use Rattle.common.specs.Limits.{longest_wanted}
 use Rattle.plan.proofs.region_exceeds.Goals as goal
 
-pub returns-then-size-start : goal.returns-then-size-start
-returns-then-size-start c = let a = c.args in region_out a.size a.start a.n c.if-size-start.true
+pub returns-in-Some : goal.returns-in-Some
+returns-in-Some c = let end : c.in-Some.end ≡ c.args.start + c.args.n = omega (arith, c.in-Some.ensures) in rw end refl
 
-pub returns : goal.returns
-returns c = let a = c.args in region_in a.size a.start a.n c.if-size-start.false
+pub returns-in-None : goal.returns-in-None
+returns-in-None c = let a = c.args in rw (lt-ltb a.size (a.start + a.n) (omega (arith, c.in-None.ensures))) (sym (or_true (ltb longest_wanted a.n)))

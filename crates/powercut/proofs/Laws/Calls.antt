@@ -17,7 +17,8 @@ use Rattle.script.specs.Record.{Record, frame, wait, AllFit, encode, frames_in, 
 use Rattle.script.specs.Decode.{records, decode}
 use Rattle.script.specs.Answers.{number_of}
 use Rattle.script.specs.Reader.{record_at}
-use Rattle.script.specs.declared.reader.Found.TheVariants.{Frame, Wait, End}
+use Rattle.std.specs.Prelude.{Some, None, Ok}
+use Rattle.script.specs.declared.reader.Found.TheVariants.{Frame, Wait}
 use Rattle.script.proofs.Laws.Records.{all_fit_left, encode_append, encoded_length}
 use Rattle.script.proofs.Laws.Decode.{decode_encode}
 use Rattle.script.proofs.Laws.Answers.{answer_told}
@@ -145,19 +146,19 @@ module _ (wp : Bool) (chip : Device) (start : ℕ) (wanted buffer after : List �
     next_is_read =
         read_goes_on so_far.read (plan_script_accepted (shown_by_all wp plan chip) (shown_by_all_long wp plan chip)).short
 
-    pub next_frame_accepted : {begin n next : ℕ} → record_at script at ≡ Frame begin n next → (line : Line) → Long n line
+    pub next_frame_accepted : {begin n next : ℕ} → record_at script at ≡ Ok (Some (Frame begin n next)) → (line : Line) → Long n line
         → frame_number wp (take n (drop begin script)) met line ≡ 0
     next_frame_accepted {begin} {n} {next} e line long =
         let f : List ℕ = take n (drop begin script) in
         let on = read_frame so_far.read e in
         let there : plan ≡ so_far.done ++ (frame f ∷ on.left) = next_is (frame f) on in
-        let told = answer_told script at (Frame begin n next) (sym e) refl in
+        let told = answer_told script at (Ok (Some (Frame begin n next))) (sym e) refl in
         rw so_far.device_is
         (frames.accepted_number wp f (run wp so_far.done chip) line
         (frame_accepted_among wp so_far.done on.left f chip (rw there at fit) ready line (rw told.long long)))
 
     -- all are run
-    pub all_run_finished : {next : ℕ} → record_at script at ≡ End next → Finished wp chip start wanted met
+    pub all_run_finished : record_at script at ≡ Ok None → Finished wp chip start wanted met
     unfolding Finished
     all_run_finished e = run_to_end so_far e ∙ rw reads_back refl
 
@@ -167,7 +168,7 @@ module _ (wp : Bool) (chip : Device) (start : ℕ) (wanted buffer after : List �
     power_up_lost answer is = rw (is, so_far.device_is) (between so_far.done so_far.read.left parted)
 
     -- it goes inside the frame that the reader answers here: the call "run an interrupted frame", as it is accepted
-    pub cut_frame_lost : {begin n next : ℕ} → record_at script at ≡ Frame begin n next → (mask : List ℕ) (line : Line) → Bytes mask
+    pub cut_frame_lost : {begin n next : ℕ} → record_at script at ≡ Ok (Some (Frame begin n next)) → (mask : List ℕ) (line : Line) → Bytes mask
         → {number : ℕ} {chip_after : Device} {line_after : Line} → CutRun wp (take n (drop begin script)) mask met line number chip_after line_after → number ≡ 0
         → PowerLost wp chip start wanted chip_after
     unfolding PowerLost
@@ -179,7 +180,7 @@ module _ (wp : Bool) (chip : Device) (start : ℕ) (wanted buffer after : List �
         rw (r.device_is, so_far.device_is) (inside so_far.done on.left f mask line there bytes (rw so_far.device_is at taken))
 
     -- it goes when some of the wait that the reader answers here has passed: the calls "let n microseconds pass" and "power it up again"
-    pub cut_wait_lost : {n next : ℕ} → record_at script at ≡ Wait n next → (m : ℕ) → m ≤ n → (passed answer : Answer) → passed ≡ pass_time met.state m
+    pub cut_wait_lost : {n next : ℕ} → record_at script at ≡ Ok (Some (Wait n next)) → (m : ℕ) → m ≤ n → (passed answer : Answer) → passed ≡ pass_time met.state m
         → answer ≡ power_up passed.state → PowerLost wp chip start wanted (with_state met answer.state)
     unfolding PowerLost
     cut_wait_lost {n} {next} e m part passed answer first second =

@@ -1,13 +1,17 @@
 -- The laws of a region: `wanted_at`, `changes` and `rises` inside it and outside, at its i-th byte, and `any_of` one address at a time.
 -- Assumes nothing.
 use mathlib.Core.Path.{◌≡◌, refl, sym, ap, ◌∙◌}
-use mathlib.Core.Bool.{Bool, true, false, not}
-use mathlib.Core.List.{List}
+use mathlib.Core.Bool.{Bool, true, false, not, ◌||◌}
+use mathlib.Core.List.{List, [], ◌∷◌}
 use Prim.Native.Nat.{ℕ, zero, suc, ◌+◌, ◌-◌, ◌≤◌, ◌<◌}
+use native.Mathlib.Nat.{add-zero}
 use native.Mathlib.Omega.{arith}
 use lib.Bits.{bit_and}
 use lib.Dec.{eqb}
-use lib.ListN.{length, get_or}
+use lib.ListN.{length, get_or, take, drop, length-drop}
+use lib.Seq.{get_or-take, get_or-drop, length-take-le}
+use lib.Pointwise.{pointwise}
+use Rattle.std.specs.List.{list_any, zip}
 use borrow.Author.Tests.{eqb-true, eqb-false, not-true, not-false}
 use Rattle.common.specs.Lists.{within}
 use Rattle.common.proofs.Laws.Choice.{cases}
@@ -102,22 +106,49 @@ any_none test zero a h = refl
 any_none test (suc n) a h =
     rw (h a (omega arith) (omega arith)) (any_none test n (suc a) (λ address i j. h address (omega arith) (omega arith)))
 
--- a search over n addresses from a on, at its turn i: the address passes, or it does not, or there is none left
-module _ (test : ℕ → Bool) (n i a : ℕ) where
-  pub any_found : i < n → test (a + i) ≡ true → any_of test (n - i) (a + i) ≡ true
-  unfolding any_of
-  any_found h e = let more : n - i ≡ suc (n - (i + 1)) = omega arith in rw (more, e) refl
+-- a search through pairs, and through n addresses from a on, by what their places have
+pub any_pair : (test : ℕ × ℕ → Bool) (d : ℕ → Bool) (old new : List ℕ) (a : ℕ) → length old ≡ length new
+    → ((i : ℕ) → i < length new → d (a + i) ≡ test (get_or old i 0, get_or new i 0)) → list_any test (zip old new) ≡ any_of d (length new) a
+unfolding any_of
+any_pair test d [] [] a e h = refl
+any_pair test d [] (y ∷ new) a e h = absurd (omega arith)
+any_pair test d (x ∷ old) [] a e h = absurd (omega arith)
+any_pair test d (x ∷ old) (y ∷ new) a e h =
+    let here : d a ≡ test (x, y) = rw add-zero at (h 0 (omega arith)) in
+    rw here (ap (λ t. test (x, y) || t) (any_pair test d old new (suc a) (omega arith) (λ i l. let next : suc a + i ≡ a + suc i = omega arith in ap d next ∙ h (suc i) (omega arith))))
 
-  pub any_turn : i < n → test (a + i) ≡ false → any_of test (n - i) (a + i) ≡ any_of test (n - (i + 1)) (a + (i + 1))
-  unfolding any_of
-  any_turn h e =
-      let more : n - i ≡ suc (n - (i + 1)) = omega arith in
-      let next : suc (a + i) ≡ a + (i + 1) = omega arith in
-      rw (more, e) (ap (any_of test (n - (i + 1))) next)
+pub differ_pair : (d : ℕ → Bool) (old new : List ℕ) (a : ℕ) → length old ≡ length new
+    → ((i : ℕ) → i < length new → d (a + i) ≡ not (eqb (get_or old i 0) (get_or new i 0))) → not (pointwise eqb old new) ≡ any_of d (length new) a
+unfolding any_of
+differ_pair d [] [] a e h = refl
+differ_pair d [] (y ∷ new) a e h = absurd (omega arith)
+differ_pair d (x ∷ old) [] a e h = absurd (omega arith)
+differ_pair d (x ∷ old) (y ∷ new) a e h =
+    let here : d a ≡ not (eqb x y) = rw add-zero at (h 0 (omega arith)) in
+    let rest = differ_pair d old new (suc a) (omega arith) (λ i l. let next : suc a + i ≡ a + suc i = omega arith in ap d next ∙ h (suc i) (omega arith)) in
+    cases (eqb x y) (λ t. rw (here, t) rest) (λ f. rw (here, f) refl)
 
-  pub any_end : n ≤ i → any_of test (n - i) (a + i) ≡ false
-  unfolding any_of
-  any_end h = let none : n - i ≡ 0 = omega arith in rw none refl
+-- those before that do not pass may be left out
+pub any_skip : (test : ℕ → Bool) (m n a : ℕ) → ((k : ℕ) → a ≤ k → k < a + m → test k ≡ false) → any_of test (m + n) a ≡ any_of test n (a + m)
+unfolding any_of
+any_skip test zero n a h = let e : zero + n ≡ n = omega arith in let f : a + zero ≡ a = omega arith in rw (e, f) refl
+any_skip test (suc m) n a h =
+    let e : suc m + n ≡ suc (m + n) = omega arith in
+    let f : a + suc m ≡ suc a + m = omega arith in
+    rw (e, f, h a (omega arith) (omega arith)) (any_skip test m n (suc a) (λ k i l. h k (omega arith) (omega arith)))
+
+-- a byte of a part
+pub slice_at : (xs : List ℕ) (start n i : ℕ) → i < n → get_or (take n (drop start xs)) i 0 ≡ get_or xs (start + i) 0
+slice_at xs start n i h = get_or-take n (drop start xs) i 0 h ∙ get_or-drop start xs i 0
+
+-- "a wanted 1 where the array has 0": the pairs of what the array has and what is wanted say it
+pub rises_pairs : (array : List ℕ) (start : ℕ) (wanted : List ℕ) (n : ℕ) → n ≡ length wanted → start + length wanted ≤ length array
+    → list_any (λ p. not (eqb (bit_and p.0 p.1) p.1)) (zip (take n (drop start array)) wanted) ≡ wants_rise array start wanted
+unfolding wants_rise
+rises_pairs array start wanted n e h =
+    any_pair (λ p. not (eqb (bit_and p.0 p.1) p.1)) (rises array start wanted) (take n (drop start array)) wanted start
+    (length-take-le n (drop start array) (omega (arith, length-drop start array)) ∙ e)
+    (λ i l. rises_at array start wanted i l ∙ sym (ap (λ x. not (eqb (bit_and x (get_or wanted i 0)) (get_or wanted i 0))) (slice_at array start n i (omega arith))))
 
 -- "a wanted 1 where the array has 0": there is none
 pub nothing_rises : (array : List ℕ) (start : ℕ) (wanted : List ℕ) → wants_rise array start wanted ≡ false

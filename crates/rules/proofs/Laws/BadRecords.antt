@@ -42,6 +42,7 @@ use Rattle.script.specs.Decode.{
 }
 use Rattle.script.specs.Answers.{number_of}
 use Rattle.script.specs.Reader.{two_bytes_at, answer, record_at}
+use Rattle.script.proofs.Laws.Answers.{refusal_number}
 use Rattle.script.proofs.Laws.Places.{front_frame_lem, front_wait_lem, front_unknown, front_at_end, front_short}
 use Rattle.script.proofs.Laws.Reader.{record_at_long, record_at_past, record_at_inside, frame_no_length, frame_wrong_length, frame_cut_short, frame_whole, wait_cut_short, wait_whole}
 use Rattle.script.proofs.Laws.Decode.{decode_encode, encode_decode}
@@ -111,22 +112,22 @@ module _ (script : List ℕ) (offset : ℕ) where
 
       length_first : length script < offset + 4 → number_there script offset ≡ first_of record_rows
       length_first few =
-          at ∙ ap number_of (frame_no_length script offset two few) ∙ rw (more, both, mark, lt-ltb (length script) (offset + 4) few) refl
+          at ∙ ap number_of (frame_no_length script offset (offset + 2) (omega (arith, length-drop (offset + 2) script, few))) ∙ rw (more, both, mark, lt-ltb (length script) (offset + 4) few) refl
 
       module _ (four : offset + 4 ≤ length script) where
         wrong_first : ltb n 1 || ltb longest_frame n ≡ true → number_there script offset ≡ first_of record_rows
         wrong_first wrong =
-            at ∙ ap number_of (frame_wrong_length script offset n four n_is wrong)
+            at ∙ ap number_of (frame_wrong_length script offset (offset + 2) n (omega (arith, four)) n_is wrong)
             ∙ rw (more, both, mark, le-ltb (length script) (offset + 4) four, wrong) refl
 
         rest_first : ltb n 1 || ltb longest_frame n ≡ false → length script < offset + 4 + n → number_there script offset ≡ first_of record_rows
         rest_first right few =
-            at ∙ ap number_of (frame_cut_short script offset n four n_is right (omega (arith, four, few)))
+            at ∙ ap number_of (frame_cut_short script offset (offset + 2) n (omega (arith, four)) n_is right (omega (arith, few)))
             ∙ rw (more, both, mark, le-ltb (length script) (offset + 4) four, right, lt-ltb (length script) (offset + 4 + n) few) refl
 
         whole_first : ltb n 1 || ltb longest_frame n ≡ false → offset + 4 + n ≤ length script → number_there script offset ≡ first_of record_rows
         whole_first right enough =
-            at ∙ ap number_of (frame_whole script offset n four n_is right (omega (arith, four, enough)))
+            at ∙ ap number_of (frame_whole script offset (offset + 2) n (omega (arith, four)) n_is right (omega (arith, enough)))
             ∙ rw (more, both, mark, no_wait, le-ltb (length script) (offset + 4) four, right, le-ltb (length script) (offset + 4 + n) enough) refl
 
       frame_first : number_there script offset ≡ first_of record_rows
@@ -139,8 +140,8 @@ module _ (script : List ℕ) (offset : ℕ) where
     wait_first : is_marked frame_mark ≡ false → is_marked wait_mark ≡ true → number_there script offset ≡ first_of record_rows
     wait_first other mark =
         there_is (front_wait_lem script offset two other mark)
-        ∙ ⊎_elim (λ few. ap number_of (wait_cut_short script offset two few) ∙ rw (more, both, other, mark, lt-ltb (length script) (offset + 6) few) refl)
-        (λ enough. ap number_of (wait_whole script offset enough) ∙ rw (more, both, other, mark, le-ltb (length script) (offset + 6) enough) refl)
+        ∙ ⊎_elim (λ few. ap number_of (wait_cut_short script offset (offset + 2) (omega (arith, length-drop (offset + 2) script, few))) ∙ rw (more, both, other, mark, lt-ltb (length script) (offset + 6) few) refl)
+        (λ enough. ap number_of (wait_whole script offset (offset + 2) (omega (arith, enough))) ∙ rw (more, both, other, mark, le-ltb (length script) (offset + 6) enough) refl)
         (split (length script) (offset + 6))
 
     -- none of them
@@ -219,13 +220,13 @@ module _ (script : List ℕ) (offset : ℕ) where
 
   -- the fault and its number tell the same
   means_fault : (fault : Fault) → Exactly (front (drop offset script) ≡ malformed fault) (number_there script offset ≡ fault_number fault)
-  means_fault fault = record { when = there_is; only_when = by_front (front (drop offset script)) }
+  means_fault fault = record { when = λ e. there_is e ∙ refusal_number fault; only_when = by_front (front (drop offset script)) }
     where
       by_front : (f : Front) → number_of (answer offset f) ≡ fault_number fault → f ≡ malformed fault
       by_front end e = absurd (omega (arith, fault_numbered fault, e))
       by_front (item (frame bytes) rest) e = absurd (omega (arith, fault_numbered fault, e))
       by_front (item (wait microseconds) rest) e = absurd (omega (arith, fault_numbered fault, e))
-      by_front (malformed other) e = ap malformed (fault_same other fault e)
+      by_front (malformed other) e = ap malformed (fault_same other fault (sym (refusal_number other) ∙ e))
 
 -- ---- a script
 

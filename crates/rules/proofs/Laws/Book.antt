@@ -222,7 +222,7 @@ module _ (wp : Bool) (chip : Device) (sector : ℕ) (scenes buffer after : List 
   marking_rules : MarkingRules wp chip sector scenes (length buffer) (take planned.length after)
   unfolding Plans room_enough
   marking_rules = record {
-    sent = λ at next met sent e. finished_marked met (sent_finished wp chip sector want buffer after planned plans good sent e);
+    sent = λ at met sent e. finished_marked met (sent_finished wp chip sector want buffer after planned plans good sent e);
     run = λ line ran left shown runs accepted.
         finished_marked left (accepted_run_finished wp chip sector want buffer after planned plans good line runs accepted);
     cut = λ lost c.
@@ -230,7 +230,7 @@ module _ (wp : Bool) (chip : Device) (sector : ℕ) (scenes buffer after : List 
     again = λ lost room written answer c again enough. (again_of lost c).accepted room written answer again enough;
     again_in_worst = λ lost room written answer c again enough.
         (again_of lost c).accepted_in_worst room written answer again (rw (worst_bytes_lem lost.state (ready_of lost c).sound) enough);
-    finishes = λ lost room written answer at next met c again accepted sent e.
+    finishes = λ lost room written answer at met c again accepted sent e.
         let plans_again = plan_of wp lost sector scenes room written answer (ready_of lost c).bytes again accepted in
         book_marked sector scenes chip.array met.array scenes_kept
         ((again_of lost c).finishes met (sent_finished wp lost sector (wanted_part lost.array sector scenes) room written answer plans_again accepted sent e));

@@ -239,7 +239,7 @@ salvage_answers sector kept dropped =
 read_answers : (script : List ℕ) (offset : ℕ) → One (λ (r : Record). ReadAnswered script offset r)
 read_answers script offset =
     let found = record_at_answered script offset refl in
-    let made : ReadAnswered script offset (record_of (record_at script offset)) = record {
+    let made : ReadAnswered script offset (record_of offset (record_at script offset)) = record {
       answer_is = refl;
       number_is = found.number_is;
       kind_is = found.kind_is;
@@ -248,7 +248,7 @@ read_answers script offset =
       microseconds_are = found.microseconds_are;
       next_is = found.next_is;
     } in
-    record { answer = record_of (record_at script offset); given = made; only = λ other p. zeradok_read_determined script offset _ _ p made }
+    record { answer = record_of offset (record_at script offset); given = made; only = λ other p. zeradok_read_determined script offset _ _ p made }
 
 answers : EveryCallAnswers
 answers = record {

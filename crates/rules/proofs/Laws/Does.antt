@@ -7,6 +7,7 @@ use Prim.Native.Nat.{ℕ, ◌<◌}
 use native.Mathlib.Omega.{arith}
 use lib.ListN.{length, get_or}
 use borrow.Author.Tests.{ltb-true, ltb-false}
+use Rattle.std.specs.Prelude.{Option, Some, None}
 use Rattle.common.specs.Lists.{mapi}
 use Rattle.common.proofs.Laws.Choice.{cases}
 use Rattle.common.proofs.Laws.Lists.{tab_cong, mapi_cong}
@@ -17,8 +18,6 @@ use Rattle.command.specs.Command.{command_of}
 use Rattle.command.specs.Fits.{Resting}
 use Rattle.registers.specs.Registers.{state_after}
 use Rattle.registers.proofs.Laws.After.{after_ignored}
-use Rattle.output.specs.declared.Shown.{Shown}
-use Rattle.output.specs.declared.Shown.TheVariants.{Silent, Driven}
 use Rattle.output.specs.Output.{byte_of, driven_of, memory, shown_at}
 use Rattle.output.proofs.Laws.Shown.{shows_ignored}
 use Rattle.effect.specs.declared.Effect.{Effect}
@@ -50,13 +49,13 @@ changes_nothing {c} f e = record {
 
 -- ---- the two slices
 
-reads_same : (shown : Shown) → byte_of shown ≡ reads_as shown
-reads_same Silent = refl
-reads_same (Driven byte) = refl
+reads_same : (shown : Option ℕ) → byte_of shown ≡ reads_as shown
+reads_same None = refl
+reads_same (Some byte) = refl
 
-marks_same : (shown : Shown) → driven_of shown ≡ marked_as shown
-marks_same Silent = refl
-marks_same (Driven byte) = refl
+marks_same : (shown : Option ℕ) → driven_of shown ≡ marked_as shown
+marks_same None = refl
+marks_same (Some byte) = refl
 
 -- ---- an accepted frame
 
@@ -65,7 +64,7 @@ module _ {wp : Bool} {f : List ℕ} {d : Device} {line : Line} (a : Accepted wp 
   done = frame_accepted wp f d line a record { device_is = refl; line_is = refl }
 
   -- by the command that it is
-  pub does : {c : Command} {shows : ℕ → Shown} {registers : State} {change : Change} → command_of d.state wp f ≡ c
+  pub does : {c : Command} {shows : ℕ → Option ℕ} {registers : State} {change : Change} → command_of d.state wp f ≡ c
       → ((i : ℕ) → shown_at d.state c (memory d.array) i ≡ shows i) → state_after d.state c ≡ registers → Changes c f change
       → Does wp f d line shows registers change
   does {c} {shows} e shows_is registers_are changes = record {

@@ -9,14 +9,13 @@ use native.Mathlib.Omega.{arith}
 use lib.Dec.{leb, eqb}
 use lib.ListN.{length, get_or}
 use borrow.Author.Tests.{lt-ltb, le-ltb, le-leb, lt-leb, ne_eqb}
+use Rattle.std.specs.Prelude.{Option, Some, None}
 use Rattle.common.proofs.Laws.Booleans.{imp_or, or_none_l, or_none_r}
 use Rattle.common.proofs.Laws.Choice.{cases}
 use Rattle.common.proofs.Laws.Lists.{split, get_d_tab, length_tab}
 use Rattle.state.specs.declared.State.{State}
 use Rattle.state.specs.Soundness.{is_busy}
 use Rattle.state.specs.Status.{status_of}
-use Rattle.output.specs.declared.Shown.{Shown}
-use Rattle.output.specs.declared.Shown.TheVariants.{Silent, Driven}
 use Rattle.command.specs.Fits.{Resting}
 use Rattle.frame.specs.Device.{Device}
 use Rattle.frame.specs.Line.{Line}
@@ -56,17 +55,17 @@ use Rattle.rules.proofs.Laws.Ruled.{ruled}
 
 -- ---- a byte that is shown
 
-abbrev drives : Shown → Bool
-drives Silent = false
-drives (Driven byte) = true
+abbrev drives : Option ℕ → Bool
+drives None = false
+drives (Some byte) = true
 
-marked : (shown : Shown) → marked_as shown ≡ cond (drives shown) 0x01 0x00
-marked Silent = refl
-marked (Driven byte) = refl
+marked : (shown : Option ℕ) → marked_as shown ≡ cond (drives shown) 0x01 0x00
+marked None = refl
+marked (Some byte) = refl
 
-silent_reads : (shown : Shown) → drives shown ≡ false → reads_as shown ≡ 0xff
-silent_reads Silent e = refl
-silent_reads (Driven byte) e = absurd (true≢false e)
+silent_reads : (shown : Option ℕ) → drives shown ≡ false → reads_as shown ≡ 0xff
+silent_reads None e = refl
+silent_reads (Some byte) e = absurd (true≢false e)
 
 from_byte : (n : ℕ) (bytes : ℕ → ℕ) (i : ℕ) → drives (bytes_from n bytes i) ≡ leb n i
 from_byte n bytes i = ⊎_elim (λ l. rw (lt-ltb i n l, lt-leb n i l) refl) (λ l. rw (le-ltb i n l, le-leb n i l) refl) (split i n)
@@ -110,7 +109,7 @@ module _ {wp : Bool} {f : List ℕ} {d : Device} {line : Line} (a : Accepted wp 
 
   -- what the frame shows, and that this is what the request says
   record Told : Type 0 where
-    shows : ℕ → Shown
+    shows : ℕ → Option ℕ
     line_is : frame_line_after wp f d line ≡ both_slices (length f) shows
     driven_is : (i : ℕ) → drives (shows i) ≡ is_driven f d i
 

@@ -7,7 +7,7 @@ use mathlib.Core.Logic.{inr}
 use Prim.Native.Nat.{ℕ}
 use lib.ListN.{length, take}
 use Rattle.common.specs.Bits.{Bytes}
-use Rattle.script.specs.declared.reader.Found.TheVariants.{End}
+use Rattle.std.specs.Prelude.{None, Ok}
 use Rattle.script.specs.Reader.{record_at}
 use Rattle.frame.specs.Device.{Device}
 use Rattle.run.proofs.Laws.Prefix.{RunTo, run_to_frame, run_to_wait}
@@ -31,8 +31,8 @@ module _ (wp : Bool) (chip : Device) (start : ℕ) (wanted buffer after : List �
   run_to (waits before e) = run_to_wait (run_to before) e refl
 
   -- sent to its end
-  pub sent_finished : {at next : ℕ} {met : Device} → SentTo wp script chip at met → record_at script at ≡ End next → Finished wp chip start wanted met
-  sent_finished {at} {next} {met} sent e = all_run_finished wp chip start wanted buffer after planned plans good at met (run_to sent) e
+  pub sent_finished : {at : ℕ} {met : Device} → SentTo wp script chip at met → record_at script at ≡ Ok None → Finished wp chip start wanted met
+  sent_finished {at} {met} sent e = all_run_finished wp chip start wanted buffer after planned plans good at met (run_to sent) e
 
   -- cut on the way
   pub cut_lost : {lost : Device} → CutAt wp script chip lost → PowerLost wp chip start wanted lost
@@ -57,9 +57,9 @@ no_cut_hurts wp chip start wanted buffer after planned bytes plans good =
           next_frame_accepted wp chip start wanted buffer after planned plans good at met (run_to wp chip start wanted buffer after planned plans good sent) e line (long_of_both long);
       cut = λ lost c. kept.partway lost (inr (lost_by lost c));
       again = λ lost room written answer c enough again. again.number ∙ kept.again lost (lost_by lost c) (length room) enough;
-      finished = λ lost room written answer at next met c again accepted sent e.
+      finished = λ lost room written answer at met c again accepted sent e.
           kept.completed lost met (lost_by lost c) (sent_finished wp lost start wanted room written answer again accepted sent e);
-      uncut = λ at next met sent e. kept.finished met (sent_finished wp chip start wanted buffer after planned plans good sent e);
+      uncut = λ at met sent e. kept.finished met (sent_finished wp chip start wanted buffer after planned plans good sent e);
       run_uncut = λ line ran left shown runs accepted.
           kept.finished left (accepted_run_finished wp chip start wanted buffer after planned plans good line runs accepted);
     }

@@ -10,11 +10,12 @@ use borrow.Author.Tests.{ltb-true}
 use Rattle.common.proofs.Laws.Booleans.{or_none_l, or_none_i, and_l, and_r}
 use Rattle.common.proofs.Laws.Lists.{mapi_id}
 use Rattle.chip.specs.declared.Chip.{Chip}
-use Rattle.chip.specs.Kinds.{unknown}
+use Rattle.chip.specs.declared.kinds.Kind.{Kind}
+use Rattle.chip.specs.declared.kinds.Kind.TheVariants.{Unknown}
 use Rattle.chip.specs.Instructions.{instructions_008a, instructions_05pa, kind_in}
 use Rattle.chip.specs.Chip.{kind_of}
 use Rattle.chip.proofs.Laws.Chip.{regular, known_number}
-use Rattle.command.specs.Command.{look, rows}
+use Rattle.command.specs.Command.{by_kind}
 use Rattle.command.proofs.Laws.Modes.{seen_busy, seen_in_aai, seen_asleep, seen_at_rest}
 use Rattle.frame.specs.Device.{Device}
 use Rattle.frame.specs.Line.{Line}
@@ -29,11 +30,11 @@ use Rattle.rules.proofs.Laws.Armed.{armed_is}
 -- ---- opcodes among others
 
 -- all instructions have their opcodes among some
-abbrev are_among : List (ℕ × ℕ) → List ℕ → Bool
+abbrev are_among : List (ℕ × Kind) → List ℕ → Bool
 are_among [] list = true
 are_among (i ∷ is) list = is_among i.0 list && are_among is list
 
-kind_unknown : (is : List (ℕ × ℕ)) (list : List ℕ) (op : ℕ) → are_among is list ≡ true → is_among op list ≡ false → kind_in is op ≡ unknown
+kind_unknown : (is : List (ℕ × Kind)) (list : List ℕ) (op : ℕ) → are_among is list ≡ true → is_among op list ≡ false → kind_in is op ≡ Unknown
 kind_unknown [] list op all other = refl
 kind_unknown (i ∷ is) list op all other =
     rw (among_not op i.0 list other (and_l (is_among i.0 list) (are_among is list) all))
@@ -60,14 +61,15 @@ module _ {wp : Bool} {f : List ℕ} {d : Device} {line : Line} (a : Accepted wp 
   -- ---- unknown opcodes
 
   unknown_among : (list : List ℕ) → is_among 0x05 list ≡ true → is_among 0x04 list ≡ true → is_among 0xab list ≡ true
-      → (d.state.aai ≡ true → is_among 0xad list ≡ true) → (is_among (opcode f) list ≡ false → kind_of d.state.chip (opcode f) ≡ unknown)
+      → (d.state.aai ≡ true → is_among 0xad list ≡ true) → (is_among (opcode f) list ≡ false → kind_of d.state.chip (opcode f) ≡ Unknown)
       → is_among (opcode f) list ≡ false → Ignored wp f d line
+  unfolding by_kind
   unknown_among list status disable wake word kind other =
       let none : (known : ℕ) → is_among known list ≡ true → eqb (opcode f) known ≡ false = λ known listed. among_not (opcode f) known list other listed in
       by_mode a (λ busy. ignored_busy busy (or_none_i (none 0x05 status) refl))
       (λ still aai. ignored_in_aai still aai (or_none_i (none 0xad (word aai)) (or_none_i (none 0x05 status) (or_none_i (none 0x04 disable) refl))))
       (λ still single asleep. ignored_asleep still single asleep (or_none_i (none 0xab wake) refl))
-      (λ r. ignored a (seen_at_rest d.state f wp r ∙ ap (look (rows d.state wp f)) (kind other)))
+      (λ r. ignored a (seen_at_rest d.state f wp r ∙ ap (by_kind d.state wp f) (kind other)))
 
   ignored_unknown : is_among (opcode f) (by_chip d.state.chip opcodes_008a opcodes_05pa) ≡ false → Ignored wp f d line
   ignored_unknown other =

@@ -8,6 +8,7 @@ use native.Mathlib.Omega.{arith}
 use lib.Dec.{eqb}
 use lib.ListN.{length, get_or}
 use borrow.Author.Tests.{ne_eqb}
+use Rattle.std.specs.Prelude.{Option}
 use Rattle.common.specs.Bits.{Bytes, bit_at}
 use Rattle.common.specs.Lists.{count_below}
 use Rattle.common.specs.Refusals.{wrong_mask}
@@ -19,7 +20,6 @@ use Rattle.state.specs.Power.{powered_up}
 use Rattle.state.proofs.Laws.Power.{power_up_granted}
 use Rattle.command.specs.Command.{command_of}
 use Rattle.command.proofs.Laws.Fits.{fits}
-use Rattle.output.specs.declared.Shown.{Shown}
 use Rattle.effect.specs.declared.Effect.{Effect}
 use Rattle.effect.specs.Effect.{touches, changed}
 use Rattle.effect.specs.Cut.{cut}
@@ -48,7 +48,7 @@ same_count one other same n =
     plus_none : (n : ℕ) → n ≡ n + 0
     plus_none n = omega arith
 
-module _ {wp : Bool} {f : List ℕ} {d : Device} {line : Line} {shows : ℕ → Shown} {registers : State} {change : Change} (a : Accepted wp f d line)
+module _ {wp : Bool} {f : List ℕ} {d : Device} {line : Line} {shows : ℕ → Option ℕ} {registers : State} {change : Change} (a : Accepted wp f d line)
     (whole : Does wp f d line shows registers change) (other : is_status_cycle (command_of d.state wp f) ≡ false) where
   abbrev effect : Effect
   effect = effect_at d.state wp f

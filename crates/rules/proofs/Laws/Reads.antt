@@ -9,17 +9,17 @@ use native.Mathlib.Omega.{arith}
 use lib.Dec.{eqb}
 use lib.ListN.{get_or}
 use borrow.Author.Tests.{lt-ltb, le-ltb}
+use Rattle.std.specs.Prelude.{Some}
 use Rattle.common.proofs.Laws.Choice.{cases}
 use Rattle.common.proofs.Laws.Lists.{split}
 use Rattle.chip.specs.declared.Chip.{Chip}
-use Rattle.chip.specs.Kinds.{read, fast_read, rdsr, res, jedec_id, rdid}
+use Rattle.chip.specs.declared.kinds.Kind.TheVariants.{Read, FastRead, Rdsr, Res, JedecId, Rdid}
 use Rattle.state.specs.State.{with_power_down}
 use Rattle.state.specs.Status.{status_of}
 use Rattle.command.specs.declared.Command.TheVariants.{ReadStatus, ReadArray, ReadSignature}
-use Rattle.command.specs.Command.{address, look, aai_rows, command_of}
+use Rattle.command.specs.Command.{address, look, aai_rows, by_kind, command_of}
 use Rattle.command.proofs.Laws.Modes.{seen_busy, seen_in_aai, seen_asleep}
 use Rattle.registers.proofs.Laws.After.{after_read_status, after_read_array, after_read_jedec, after_read_signature, after_read_identity}
-use Rattle.output.specs.declared.Shown.TheVariants.{Driven}
 use Rattle.output.specs.Output.{memory, since, jedec, identity}
 use Rattle.output.proofs.Laws.Shown.{shows_read_status, shows_read_array, shows_read_jedec, shows_read_signature, shows_read_identity}
 use Rattle.frame.specs.Device.{Device}
@@ -37,7 +37,7 @@ use Rattle.rules.proofs.Laws.Rows.{size_is, address_in_lem, kind_of_both, seen}
 -- identity: by turns, from the address on
 identity_shown : (device a i : ℕ) → since 4 i (identity device (eqb (a % 2) 1) i)
     ≡ bytes_from 4 (λ j. cond (eqb ((a + j) % 2) 0) 0x8c device) i
-identity_shown device a i = ⊎_elim (λ l. rw (lt-ltb i 4 l) refl) (λ l. rw (le-ltb i 4 l) (ap Driven (by_parity l (parity a) (parity i)))) (split i 4)
+identity_shown device a i = ⊎_elim (λ l. rw (lt-ltb i 4 l) refl) (λ l. rw (le-ltb i 4 l) (ap Some (by_parity l (parity a) (parity i)))) (split i 4)
   where
     parity : (n : ℕ) → (n % 2 ≡ 0) ⊎ (n % 2 ≡ 1)
     parity n = ⊎_elim (λ l. inl (omega arith)) (λ l. inr (omega arith)) (split (n % 2) 1)
@@ -71,23 +71,24 @@ module _ {wp : Bool} {f : List ℕ} {d : Device} {line : Line} (a : Accepted wp 
       (after_read_signature d.state) (changes_nothing f refl)
 
   pub reads : Reads wp f d line
+  unfolding by_kind
   reads = record {
     read_status = λ awake e. status_shown (by_mode a
         (λ busy. seen_busy d.state f wp busy ∙ ap (look ((0x05, ReadStatus) ∷ [])) e)
         (λ still aai. seen_in_aai d.state f wp still aai ∙ ap (look (aai_rows d.state f)) e)
         (λ _ _ asleep. absurd (true≢false (sym asleep ∙ awake)))
-        (λ r. seen a r (kind_of_both a 0x05 rdsr refl refl e)));
-    read = λ r e. array_shown 4 (seen a r (kind_of_both a 0x03 read refl refl e));
-    fast_read_lem = λ r e. array_shown 5 (seen a r (kind_of_both a 0x0b fast_read refl refl e));
-    jedec = λ r e. does a (seen a r (kind_of_both a 0x9f jedec_id refl refl e))
+        (λ r. seen a r (kind_of_both a 0x05 Rdsr refl refl e)));
+    read = λ r e. array_shown 4 (seen a r (kind_of_both a 0x03 Read refl refl e));
+    fast_read_lem = λ r e. array_shown 5 (seen a r (kind_of_both a 0x0b FastRead refl refl e));
+    jedec = λ r e. does a (seen a r (kind_of_both a 0x9f JedecId refl refl e))
         (λ i. shows_read_jedec d.state (memory d.array) i
         ∙ ap₂ (λ (x y : ℕ). jedec x y i) (data_by_chip d.state.chip a.sound.chip_known (λ (c : Chip). c.family))
         (data_by_chip d.state.chip a.sound.chip_known (λ (c : Chip). c.capacity)))
         (after_read_jedec d.state) (changes_nothing f refl);
     signature = λ still single e. signature_shown (cases d.state.power_down
         (λ asleep. seen_asleep d.state f wp still single asleep ∙ ap (look ((0xab, ReadSignature) ∷ [])) e)
-        (λ awake. seen a record { still = still; single = single; awake = awake } (kind_of_both a 0xab res refl refl e)));
-    identity = λ r e. does a (seen a r (kind_of_both a 0x90 rdid refl refl e))
+        (λ awake. seen a record { still = still; single = single; awake = awake } (kind_of_both a 0xab Res refl refl e)));
+    identity = λ r e. does a (seen a r (kind_of_both a 0x90 Rdid refl refl e))
         (λ i. shows_read_identity d.state (memory d.array) i (eqb (address d.state f % 2) 1)
         ∙ ap₂ (λ (device x : ℕ). since 4 i (identity device (eqb (x % 2) 1) i))
         (data_by_chip d.state.chip a.sound.chip_known (λ (c : Chip). c.device_id)) (address_in_lem a)

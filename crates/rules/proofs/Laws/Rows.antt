@@ -7,11 +7,12 @@ use Prim.Native.Nat.{ℕ, ◌%◌}
 use lib.ListN.{get_or}
 use Rattle.common.specs.Numbers.{three_bytes}
 use Rattle.chip.specs.declared.Chip.{Chip}
+use Rattle.chip.specs.declared.kinds.Kind.{Kind}
 use Rattle.chip.specs.Instructions.{instructions_008a, instructions_05pa, kind_in}
 use Rattle.chip.specs.Chip.{kind_of}
 use Rattle.state.specs.State.{data_of}
 use Rattle.command.specs.declared.Command.{Command}
-use Rattle.command.specs.Command.{when, address, look, rows, command_of}
+use Rattle.command.specs.Command.{when, address, by_kind, command_of}
 use Rattle.command.specs.Fits.{Resting}
 use Rattle.command.proofs.Laws.Modes.{address_is, seen_at_rest}
 use Rattle.frame.specs.Device.{Device}
@@ -39,7 +40,7 @@ module _ {wp : Bool} {f : List ℕ} {d : Device} {line : Line} (a : Accepted wp 
   address_in_lem = address_is d.state f ∙ ap (λ (n : ℕ). three_bytes (get_or f 1 0) (get_or f 2 0) (get_or f 3 0) % n) size_is
 
   -- an opcode's kind: one for both chips, or on one of them
-  pub kind_of_both : (op kind : ℕ) → kind_in instructions_008a op ≡ kind → kind_in instructions_05pa op ≡ kind → opcode f ≡ op
+  pub kind_of_both : (op : ℕ) (kind : Kind) → kind_in instructions_008a op ≡ kind → kind_in instructions_05pa op ≡ kind → opcode f ≡ op
       → kind_of d.state.chip (opcode f) ≡ kind
   kind_of_both op kind on008a on05pa e =
       ap (kind_of d.state.chip) e
@@ -47,7 +48,7 @@ module _ {wp : Bool} {f : List ℕ} {d : Device} {line : Line} (a : Accepted wp 
       ∙ ap₂ (by_chip d.state.chip) on008a on05pa
       ∙ same_by_chip d.state.chip kind
 
-  pub kind_of_one : (number op kind : ℕ) → d.state.chip ≡ number → by_chip number (kind_in instructions_008a op) (kind_in instructions_05pa op) ≡ kind
+  pub kind_of_one : (number op : ℕ) (kind : Kind) → d.state.chip ≡ number → by_chip number (kind_in instructions_008a op) (kind_in instructions_05pa op) ≡ kind
       → opcode f ≡ op → kind_of d.state.chip (opcode f) ≡ kind
   kind_of_one number op kind is e f_is =
       ap (kind_of d.state.chip) f_is
@@ -57,8 +58,8 @@ module _ {wp : Bool} {f : List ℕ} {d : Device} {line : Line} (a : Accepted wp 
 
   -- ---- a row of the table
 
-  pub seen : Resting d.state → {kind : ℕ} → kind_of d.state.chip (opcode f) ≡ kind → command_of d.state wp f ≡ look (rows d.state wp f) kind
-  seen r e = seen_at_rest d.state f wp r ∙ ap (look (rows d.state wp f)) e
+  pub seen : Resting d.state → {kind : Kind} → kind_of d.state.chip (opcode f) ≡ kind → command_of d.state wp f ≡ by_kind d.state wp f kind
+  seen r e = seen_at_rest d.state f wp r ∙ ap (by_kind d.state wp f) e
 
   -- taken by a test
   pub row : {t test : Bool} {c : Command} {outcome : Type 0} → command_of d.state wp f ≡ when t c → t ≡ test → (command_of d.state wp f ≡ c → outcome)

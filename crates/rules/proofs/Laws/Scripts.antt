@@ -10,8 +10,12 @@ use Rattle.common.specs.Limits.{longest_frame, longest_script}
 use Rattle.common.specs.Numbers.{two_bytes}
 use Rattle.common.proofs.Laws.Lists.{split}
 use Rattle.script.specs.Decode.{Front, front}
-use Rattle.script.specs.declared.reader.Found.TheVariants.{Frame, Wait, End}
-use Rattle.script.specs.Answers.{part_of}
+use Rattle.std.specs.Prelude.{Some, None, Ok, Err}
+use Rattle.common.specs.Refusals.{number_of}
+use Rattle.common.specs.declared.refusals.Refusal.{Refusal}
+use Rattle.common.specs.declared.refusals.Refusal.TheVariants.{ScriptTooLong, WrongLength, CutShort}
+use Rattle.script.specs.declared.reader.Found.TheVariants.{Frame, Wait}
+use Rattle.script.specs.Answers.{Read, next_of, part_of}
 use Rattle.script.specs.Reader.{answer, record_at}
 use Rattle.script.proofs.Laws.Records.{encode_none, encode_front, encoded_frame, encoded_wait}
 use Rattle.script.proofs.Laws.Decode.{decode_encode, encode_decode, decoded_none}
@@ -19,8 +23,8 @@ use Rattle.script.proofs.Laws.Marks.{frame_here, wrong_length_here, wait_here}
 use Rattle.script.proofs.Laws.Places.{front_at_end}
 use Rattle.script.proofs.Laws.Reader.{record_at_long, record_at_past, record_at_inside}
 use Rattle.script.proofs.Laws.Answers.{answer_told}
-use Rattle.script.proofs.Laws.Values.{part_empty_without_frame, record_at_part, frame_part_is_frame, offset_given_back}
-use Rattle.rules.specs.Scripts.{ScriptBytes, ReaderRules}
+use Rattle.script.proofs.Laws.Values.{part_empty_without_frame, record_at_part, frame_part_is_frame}
+use Rattle.rules.specs.Scripts.{ScriptBytes, RefusedWith, ReaderRules}
 
 pub script_bytes : ScriptBytes
 script_bytes = record {
@@ -36,6 +40,10 @@ script_bytes = record {
 pub wrong_length_lem : (high low : ℕ) → (high * 256 + low ≡ 0) ⊎ (4102 ≤ high * 256 + low) → (two_bytes high low < 1) ⊎ (longest_frame < two_bytes high low)
 wrong_length_lem high low wrong = ⊎_elim (λ e. inl (omega arith)) (λ l. inr l) wrong
 
+-- a refusal gives back the offset
+pub refused_with : {offset : ℕ} {read : Read} (refusal : Refusal) → read ≡ Err refusal → RefusedWith (number_of refusal) offset read
+refused_with {offset} refusal e = record { refusal = refusal; is = e; number_is = refl; next_is = ap (next_of offset) e }
+
 module _ (script : List ℕ) (offset : ℕ) where
   -- something stands there, so the offset is inside
   some_inside : {x : ℕ} {bytes : List ℕ} → drop offset script ≡ x ∷ bytes → offset ≤ length script
@@ -44,7 +52,7 @@ module _ (script : List ℕ) (offset : ℕ) where
   answered : {f : Front} → length script ≤ longest_script → offset ≤ length script → front (drop offset script) ≡ f → record_at script offset ≡ answer offset f
   answered short inside e = record_at_inside script offset short inside ∙ ap (answer offset) e
 
-  no_end_past : {next : ℕ} → record_at script offset ≡ End next → length script < offset → ⊥
+  no_end_past : record_at script offset ≡ Ok None → length script < offset → ⊥
   no_end_past e past =
       ⊎_elim (λ long. let q = record_at_long script offset long in let z : ◌≡◌ {A = ℕ} 0 1 = cc in omega arith)
       (λ short. let q = record_at_past script offset short past in let z : ◌≡◌ {A = ℕ} 0 1 = cc in omega arith) (split longest_script (length script))
@@ -53,27 +61,27 @@ module _ (script : List ℕ) (offset : ℕ) where
   reader_rules = record {
     frame_answered = λ high low f rest short e n ok.
         let next : offset + (4 + length f) ≡ offset + 4 + length f = omega arith in
-        answered short (some_inside e) (ap front e ∙ frame_here high low f rest n ok.0 ok.1) ∙ ap (Frame (offset + 4) (length f)) next;
+        answered short (some_inside e) (ap front e ∙ frame_here high low f rest n ok.0 ok.1) ∙ ap (λ (n : ℕ). Ok (Some (Frame (offset + 4) (length f) n))) next;
     wait_answered = λ a b c d rest short e.
         let n : (a * 256 + b) * 65536 + (c * 256 + d) ≡ a * 16777216 + b * 65536 + c * 256 + d = omega arith in
-        answered short (some_inside e) (ap front e ∙ wait_here a b c d rest) ∙ ap (λ (n : ℕ). Wait n (offset + 6)) n;
+        answered short (some_inside e) (ap front e ∙ wait_here a b c d rest) ∙ ap (λ (n : ℕ). Ok (Some (Wait n (offset + 6)))) n;
     end_answered = λ short e. answered short (omega arith) (front_at_end script offset (omega arith));
     end_only_there = λ e.
         let told = (rw e at (answer_told script offset (record_at script offset) refl)) refl in
         ⊎_elim (λ past. absurd (no_end_past e past))
-        (λ inside. omega (arith, ap length (decoded_none (drop offset script) told.1.decoded), length-drop offset script)) (split (length script) offset);
+        (λ inside. omega (arith, ap length (decoded_none (drop offset script) told.decoded), length-drop offset script)) (split (length script) offset);
     frame_given = λ high low f rest short e n ok. frame_part_is_frame script offset short (ap front e ∙ frame_here high low f rest n ok.0 ok.1);
     as_that_part = λ e. sym (record_at_part script offset) ∙ ap (part_of script) e;
     refusal_part = λ e. sym (record_at_part script offset) ∙ ap (part_of script) e;
-    refusal_offset = λ e. rw e at (offset_given_back script offset);
+    refusal_offset = λ e. ap (next_of offset) e;
     wait_part = λ a b c d rest e.
         part_empty_without_frame script offset
         (λ bytes behind q. let w = ap front e ∙ wait_here a b c d rest in let z : ◌≡◌ {A = ℕ} 0 1 = cc in omega arith);
     end_part = λ e.
         part_empty_without_frame script offset
         (λ bytes behind q. let w = front_at_end script offset (omega arith) in let z : ◌≡◌ {A = ℕ} 0 1 = cc in omega arith);
-    end_offset = λ e. rw e at (offset_given_back script offset);
-    wrong_length_refused = λ high low rest short e wrong. answered short (some_inside e) (ap front e ∙ wrong_length_here high low rest (wrong_length_lem high low wrong));
-    past_refused = λ short past. record_at_past script offset short past;
-    too_long_refused = λ long. record_at_long script offset long;
+    end_offset = λ e. ap (next_of offset) e;
+    wrong_length_refused = λ high low rest short e wrong. refused_with WrongLength (answered short (some_inside e) (ap front e ∙ wrong_length_here high low rest (wrong_length_lem high low wrong)));
+    past_refused = λ short past. refused_with CutShort (record_at_past script offset short past);
+    too_long_refused = λ long. refused_with ScriptTooLong (record_at_long script offset long);
   }

@@ -11,9 +11,28 @@ use lib.ListN.{length, get_or}
 use borrow.Author.Tests.{eqb-true, eqb-false, not-true, ltb-true, ltb-false, lt-ltb, le-ltb}
 use Rattle.common.proofs.Laws.Booleans.{and_l, and_r, and_true, or_none_l, or_none_r, or_false}
 use Rattle.common.proofs.Laws.Choice.{cases}
-use Rattle.common.proofs.Laws.Pairs.{◌▹◌}
 use Rattle.chip.specs.declared.Chip.{Chip}
-use Rattle.chip.specs.Kinds.{wrsr}
+use Rattle.chip.specs.declared.kinds.Kind.{Kind}
+use Rattle.chip.specs.declared.kinds.Kind.TheVariants.{
+  Unknown,
+  Read,
+  FastRead,
+  SectorErase,
+  BlockErase,
+  ChipErase,
+  ByteProgram,
+  PageProgram,
+  AaiProgram,
+  Rdsr,
+  Ewsr,
+  Wrsr,
+  Wren,
+  Wrdi,
+  DeepPowerDown,
+  Res,
+  JedecId,
+  Rdid,
+}
 use Rattle.chip.specs.Chip.{kind_of}
 use Rattle.chip.proofs.Laws.Chip.{chip_of_5, known_number}
 use Rattle.state.specs.declared.State.{State}
@@ -29,11 +48,9 @@ use Rattle.state.proofs.Laws.Soundness.{of_sound}
 use Rattle.state.proofs.Laws.Status.{status_sum}
 use Rattle.state.proofs.Laws.Time.{time_passed_sound}
 use Rattle.state.proofs.Laws.Passed.{time_goes_on, time_ends_written, pass_time_granted}
-use Rattle.command.specs.declared.Command.{Command}
 use Rattle.command.specs.declared.Command.TheVariants.{WriteStatus}
-use Rattle.command.specs.Command.{when, long, look, rows, command_of}
+use Rattle.command.specs.Command.{when, long, by_kind, command_of}
 use Rattle.command.specs.Fits.{Resting}
-use Rattle.command.proofs.Laws.Rows.{AllRows, look_elim}
 use Rattle.command.proofs.Laws.Modes.{seen_at_rest}
 use Rattle.registers.specs.Registers.{state_after}
 use Rattle.effect.proofs.Laws.Straight.{keep_array_cut}
@@ -55,16 +72,13 @@ use Rattle.rules.proofs.Laws.StatusByte.{written_again}
 use Rattle.rules.proofs.Laws.Soundness.{soundness}
 use Rattle.rules.proofs.Laws.Power.{power_up_lem}
 use Rattle.rules.proofs.Laws.Time.{written_is}
-use Rattle.rules.proofs.Laws.Kinds.{kind_exactly}
+use Rattle.rules.proofs.Laws.Kinds.{is_status_write, kind_exactly}
 use Rattle.rules.proofs.Laws.Does.{done}
-use Rattle.rules.proofs.Laws.AtRest.{rows_fail, at_rest_alone}
+use Rattle.rules.proofs.Laws.AtRest.{bare, kind_fails, at_rest_alone}
 use Rattle.rules.proofs.Laws.Frames.{frame_rules}
 use Rattle.rules.proofs.Laws.Switches.{not_locked, switches}
 
 -- ---- which frames begin one
-
-abbrev Quiet : Command → Type 0
-Quiet c = is_status_cycle c ≡ false
 
 -- a status write, by its row's tests
 by_tests : (a b c : Bool) (byte time : ℕ) → is_status_cycle (when a (when b (when c (WriteStatus byte time)))) ≡ ((a && (b && c)) && ltb 0 time)
@@ -74,33 +88,31 @@ by_tests true false c byte time = refl
 by_tests false b c byte time = refl
 
 module _ (s : State) (wp : Bool) (f : List ℕ) where
-  rows_quiet : (kind : ℕ) → (kind ≡ wrsr → ⊥) → AllRows Quiet kind (rows s wp f)
-  rows_quiet kind other =
-      rows_fail is_status_cycle refl s wp f kind
-      ((λ _. refl)
-      ▹ (λ _. refl)
-      ▹ (λ _. refl)
-      ▹ (λ _. refl)
-      ▹ (λ _. refl)
-      ▹ (λ _. refl)
-      ▹ (λ _. refl)
-      ▹ (λ _. refl)
-      ▹ (λ _. refl)
-      ▹ (λ _. refl)
-      ▹ (λ e. absurd (other e))
-      ▹ (λ _. refl)
-      ▹ (λ _. refl)
-      ▹ (λ _. refl)
-      ▹ (λ _. refl)
-      ▹ (λ _. refl)
-      ▹ (λ _. refl)
-      ▹ tt)
+  -- a kind whose command begins no status write, taken or not
+  quiet : (kind : Kind) → is_status_cycle (bare s f kind) ≡ false → is_status_cycle (by_kind s wp f kind) ≡ false
+  quiet kind fails = kind_fails is_status_cycle refl s wp f kind fails
 
-  by_kind : (kind : ℕ) → is_status_cycle (look (rows s wp f) kind)
-      ≡ (eqb kind wrsr && ((long f 2 && (s.armed && (not s.bpl || wp))) && ltb 0 (data_of s).status_time))
-  by_kind kind =
-      cases (eqb kind wrsr) (λ e. rw (eqb-true kind wrsr e) (by_tests (long f 2) s.armed (not s.bpl || wp) (get_or f 1 0) (data_of s).status_time))
-      (λ e. look_elim Quiet refl (rows s wp f) kind (rows_quiet kind (eqb-false kind wrsr e)) ∙ sym (rw e refl))
+  cycle_by_kind : (kind : Kind) → is_status_cycle (by_kind s wp f kind)
+      ≡ (is_status_write kind && ((long f 2 && (s.armed && (not s.bpl || wp))) && ltb 0 (data_of s).status_time))
+  unfolding by_kind
+  cycle_by_kind Unknown = quiet Unknown refl
+  cycle_by_kind Read = quiet Read refl
+  cycle_by_kind FastRead = quiet FastRead refl
+  cycle_by_kind SectorErase = quiet SectorErase refl
+  cycle_by_kind BlockErase = quiet BlockErase refl
+  cycle_by_kind ChipErase = quiet ChipErase refl
+  cycle_by_kind ByteProgram = quiet ByteProgram refl
+  cycle_by_kind PageProgram = quiet PageProgram refl
+  cycle_by_kind AaiProgram = quiet AaiProgram refl
+  cycle_by_kind Rdsr = quiet Rdsr refl
+  cycle_by_kind Ewsr = quiet Ewsr refl
+  cycle_by_kind Wrsr = by_tests (long f 2) s.armed (not s.bpl || wp) (get_or f 1 0) (data_of s).status_time
+  cycle_by_kind Wren = quiet Wren refl
+  cycle_by_kind Wrdi = quiet Wrdi refl
+  cycle_by_kind DeepPowerDown = quiet DeepPowerDown refl
+  cycle_by_kind Res = quiet Res refl
+  cycle_by_kind JedecId = quiet JedecId refl
+  cycle_by_kind Rdid = quiet Rdid refl
 
 -- on the one chip alone
 small_alone : (number op : ℕ) (taken : Bool) → (is_among op (0x01 ∷ []) && (taken && by_chip number false true)) ≡ (is_among op (by_chip number [] (0x01 ∷ [])) && taken)
@@ -119,9 +131,9 @@ module _ {wp : Bool} {f : List ℕ} {d : Device} {line : Line} (a : Accepted wp 
   at_rest : Resting s → is_status_cycle (command_of s wp f) ≡ (is_among (opcode f) (by_chip s.chip [] (0x01 ∷ [])) && is_status_taken wp f d)
   at_rest r =
       ap is_status_cycle (seen_at_rest s f wp r)
-      ∙ by_kind s wp f (kind_of s.chip (opcode f))
+      ∙ cycle_by_kind s wp f (kind_of s.chip (opcode f))
       ∙ rw (
-        kind_exactly (λ found. eqb found wrsr) (0x01 ∷ []) (0x01 ∷ []) refl refl s.chip a.sound.chip_known (opcode f),
+        kind_exactly is_status_write (0x01 ∷ []) (0x01 ∷ []) refl refl s.chip a.sound.chip_known (opcode f),
         same_by_chip {A = List ℕ} s.chip (0x01 ∷ []),
         not_locked a s.bpl,
         data_by_chip s.chip a.sound.chip_known (λ (c : Chip). ltb 0 c.status_time),

@@ -17,7 +17,10 @@ use Rattle.script.specs.Decode.{Fault, unknown_mark, wrong_length, cut_short, fa
 use Rattle.script.specs.declared.survey.Surveyed.{Surveyed}
 use Rattle.script.specs.Survey.{survey_refusals, surveyed, survey_of}
 use Rattle.script.proofs.Laws.Decode.{encode_decode}
+use Rattle.script.specs.Reader.{refusal_of}
+use Rattle.script.proofs.Laws.Answers.{refusal_number}
 use Rattle.script.proofs.Laws.Bad.{bad_at_read}
+use Rattle.rules.proofs.Laws.Scripts.{refused_with}
 use Rattle.script.proofs.Laws.Survey.{survey_short, survey_number, survey_whole, Blamed, survey_bad, survey_refused}
 use Rattle.frame.specs.Device.{Device}
 use Rattle.frame.specs.Line.{Line}
@@ -103,6 +106,6 @@ module _ (script : List ℕ) (bytes : Bytes script) where
     first_told = first_told;
     refusal_counts = λ some. rw (survey_refused script (λ z. omega (arith, z, some))) (refl, (refl, refl));
     counts = counts;
-    read_there = λ e. let b = blamed e in rw b.survey_is (bad_at_read script bytes b.short b.decoded);
+    read_there = λ e. let b = blamed e in rw (b.survey_is, ← refusal_number b.fault) (refused_with (refusal_of b.fault) (bad_at_read script bytes b.short b.decoded));
     then_run = then_run;
   }

@@ -9,10 +9,10 @@ use lib.Dec.{eqb}
 use lib.ListN.{length, get_or}
 use Rattle.common.proofs.Laws.Choice.{cases}
 use Rattle.chip.specs.declared.Chip.{Chip}
-use Rattle.chip.specs.Kinds.{ewsr, wrsr, wren, wrdi, deep_power_down}
+use Rattle.chip.specs.declared.kinds.Kind.TheVariants.{Ewsr, Wrsr, Wren, Wrdi, DeepPowerDown}
 use Rattle.state.specs.State.{data_of, with_pending}
 use Rattle.command.specs.declared.Command.TheVariants.{WriteStatus}
-use Rattle.command.specs.Command.{when, long, look, aai_rows}
+use Rattle.command.specs.Command.{when, long, look, aai_rows, by_kind}
 use Rattle.command.proofs.Laws.Modes.{seen_in_aai}
 use Rattle.registers.specs.Registers.{state_after}
 use Rattle.registers.proofs.Laws.After.{after_write_enable, after_write_disable, after_arm, after_write_status, after_status_begun, after_sleep}
@@ -48,22 +48,23 @@ module _ {wp : Bool} {f : List ℕ} {d : Device} {line : Line} (a : Accepted wp 
       (λ t. rw t (after_status_begun d.state byte 5000 (omega arith) ∙ ap (with_pending (busy_for 5000 d) true) (bits_of byte)))
 
   pub switches : Switches wp f d line
+  unfolding by_kind
   switches = record {
-    write_enable = λ r e. row a (seen a r (kind_of_both a 0x06 wren refl refl e)) refl
+    write_enable = λ r e. row a (seen a r (kind_of_both a 0x06 Wren refl refl e)) refl
         (λ c. does a c (λ i. shows_write_enable d.state (memory d.array) i) (after_write_enable d.state) (changes_nothing f refl));
     write_disable = λ still awake e. row a (cases d.state.aai
         (λ aai. seen_in_aai d.state f wp still aai ∙ ap (look (aai_rows d.state f)) e)
-        (λ single. seen a record { still = still; single = single; awake = awake } (kind_of_both a 0x04 wrdi refl refl e))) refl
+        (λ single. seen a record { still = still; single = single; awake = awake } (kind_of_both a 0x04 Wrdi refl refl e))) refl
         (λ c. does a c (λ i. shows_write_disable d.state (memory d.array) i) (after_write_disable d.state) (changes_nothing f refl));
-    enable_status = λ r n e. row a (seen a r (kind_of_one a 8 0x50 ewsr n refl e)) refl
+    enable_status = λ r n e. row a (seen a r (kind_of_one a 8 0x50 Ewsr n refl e)) refl
         (λ c. does a c (λ i. shows_arm d.state (memory d.array) i) (after_arm d.state) (changes_nothing f refl));
     write_status_lem = λ r e. row a
-        (seen a r (kind_of_both a 0x01 wrsr refl refl e)
+        (seen a r (kind_of_both a 0x01 Wrsr refl refl e)
         ∙ ap (when (long f 2)) (when_both d.state.armed (not d.state.bpl || wp) (WriteStatus (get_or f 1 0) (data_of d.state).status_time))
         ∙ when_both (long f 2) (d.state.armed && (not d.state.bpl || wp)) (WriteStatus (get_or f 1 0) (data_of d.state).status_time))
         (ap (λ (b : Bool). eqb (length f) 2 && (d.state.armed && b)) (not_locked d.state.bpl))
         (λ c. does a c (λ i. shows_write_status d.state (memory d.array) i (get_or f 1 0) (data_of d.state).status_time)
         (status_after (get_or f 1 0)) (changes_nothing f refl));
-    power_down_lem = λ r n e. row a (seen a r (kind_of_one a 5 0xb9 deep_power_down n refl e)) refl
+    power_down_lem = λ r n e. row a (seen a r (kind_of_one a 5 0xb9 DeepPowerDown n refl e)) refl
         (λ c. does a c (λ i. shows_sleep d.state (memory d.array) i) (after_sleep d.state) (changes_nothing f refl));
   }

@@ -14,14 +14,14 @@ use Rattle.common.proofs.Laws.Choice.{cases}
 use Rattle.common.proofs.Laws.Booleans.{and_l, and_r}
 use Rattle.common.proofs.Laws.Lists.{split}
 use Rattle.chip.specs.declared.Chip.{Chip}
-use Rattle.chip.specs.Kinds.{sector_erase, block_erase, chip_erase, byte_program, page_program, aai_program}
+use Rattle.chip.specs.declared.kinds.Kind.TheVariants.{SectorErase, BlockErase, ChipErase, ByteProgram, PageProgram, AaiProgram}
 use Rattle.chip.proofs.Laws.Chip.{known_number}
 use Rattle.state.specs.State.{data_of, with_left, with_aai}
 use Rattle.state.specs.Protection.{first_protected_by_level, first_protected}
 use Rattle.state.proofs.Laws.Protection.{first_border, first_graded, level_some}
 use Rattle.command.specs.declared.Command.{Command}
 use Rattle.command.specs.declared.Command.TheVariants.{Erase, ProgramByte, ProgramPage, ProgramWord}
-use Rattle.command.specs.Command.{when, long, address, writable, erase, look, aai_rows, command_of}
+use Rattle.command.specs.Command.{when, long, address, writable, erase, look, aai_rows, by_kind, command_of}
 use Rattle.command.proofs.Laws.Carries.{carries}
 use Rattle.command.proofs.Laws.Modes.{writable_is, seen_in_aai}
 use Rattle.registers.proofs.Laws.After.{after_erase, after_program_byte, after_program_page, after_program_word}
@@ -126,36 +126,37 @@ module _ {wp : Bool} {f : List ℕ} {d : Device} {line : Line} (a : Accepted wp 
       (known_number d.state.chip known)
 
   pub writes : Writes wp f d line
+  unfolding by_kind
   writes = record {
     sector_erase_lem = λ r e. row_open (long f 4) (sector_in f d) 4096
-        (seen a r (kind_of_both a 0x20 sector_erase refl refl e)
+        (seen a r (kind_of_both a 0x20 SectorErase refl refl e)
         ∙ ap (λ (x : ℕ). when (long f 4) (erase d.state (x / 4096 * 4096) 4096 90000)) (address_in_lem a))
         (erase_does (sector_in f d) 4096 90000);
     block_erase_lem = λ r e. row_open (long f 4) (block_in f d) 65536
-        (seen a r (kind_of_both a 0xd8 block_erase refl refl e)
+        (seen a r (kind_of_both a 0xd8 BlockErase refl refl e)
         ∙ ap₂ (λ (x time : ℕ). when (long f 4) (erase d.state (x / 65536 * 65536) 65536 time)) (address_in_lem a)
         (data_by_chip d.state.chip a.sound.chip_known (λ (c : Chip). c.block_time)))
         (erase_does (block_in f d) 65536 (by_chip d.state.chip 1000000 750000));
     chip_erase_lem = λ r op which e. row a
-        (seen a r (⊎_elim (λ is. kind_of_both a 0x60 chip_erase refl refl (e ∙ is)) (λ is. kind_of_both a 0xc7 chip_erase refl refl (e ∙ is)) which)
+        (seen a r (⊎_elim (λ is. kind_of_both a 0x60 ChipErase refl refl (e ∙ is)) (λ is. kind_of_both a 0xc7 ChipErase refl refl (e ∙ is)) which)
         ∙ ap₂ (λ (n time : ℕ). when (long f 1) (erase d.state 0 n time)) (size_is a)
         (data_by_chip d.state.chip a.sound.chip_known (λ (c : Chip). c.chip_time))
         ∙ when_both (long f 1) (writable d.state (0 + size_of d)) (Erase 0 (size_of d) (by_chip d.state.chip 8000000 1000000)))
         (ap (λ (b : Bool). long f 1 && b) (writable_is d.state f (0 + size_of d) ∙ ap (λ (b : Bool). d.state.wel && b) whole_open))
         (erase_does 0 (size_of d) (by_chip d.state.chip 8000000 1000000));
     byte_program_lem = λ r n e. row_open (long f 5) (address_in f d) 1
-        (seen a r (kind_of_one a 8 0x02 byte_program n refl e)
+        (seen a r (kind_of_one a 8 0x02 ByteProgram n refl e)
         ∙ ap (λ (x : ℕ). when (long f 5) (when (writable d.state (x + 1)) (ProgramByte x))) (address_in_lem a))
         (λ c. does a c (λ i. shows_program_byte d.state (memory d.array) i (address_in f d)) (after_program_byte d.state (address_in f d))
         (changes_programmed (address_in f d) 1 4 f refl));
     page_program_lem = λ r n e. row_open (leb 5 (length f)) (address_in f d) 1
-        (seen a r (kind_of_one a 5 0x02 page_program n refl e)
+        (seen a r (kind_of_one a 5 0x02 PageProgram n refl e)
         ∙ ap (λ (x : ℕ). when (leb 5 (length f)) (when (writable d.state (x + 1)) (ProgramPage x (length f - 4)))) (address_in_lem a))
         (λ c. does a c (λ i. shows_program_page d.state (memory d.array) i (address_in f d) (length f - 4))
         (after_program_page d.state (address_in f d) (length f - 4))
         (changes_page (address_in f d) f (rw c at (carries d.state wp f))));
     first_word = λ r n e. row_open (long f 6) (word_in f d) 2
-        (seen a r (kind_of_one a 8 0xad aai_program n refl e)
+        (seen a r (kind_of_one a 8 0xad AaiProgram n refl e)
         ∙ ap (λ (x : ℕ). when (long f 6) (when (writable d.state (x / 2 * 2 + 2)) (ProgramWord (x / 2 * 2) 4))) (address_in_lem a))
         (word_does (word_in f d) 4);
     next_word = λ still aai e. row_open (long f 3) d.state.next 2

@@ -7,25 +7,30 @@ use Prim.Native.Nat.{ℕ, ◌≤◌, ◌<◌}
 use native.Mathlib.Omega.{arith}
 use lib.Dec.{eqb}
 use lib.ListN.{length}
-use borrow.Author.Tests.{eqb-true, eqb-false, eq-eqb, ltb-false, le-ltb, not-false}
+use borrow.Author.Tests.{eqb-true, eqb-false, eq-eqb, ne_eqb, ltb-false, le-ltb, not-false}
 use Rattle.common.specs.Limits.{longest_script}
-use Rattle.common.specs.Refusals.{state_not_sound, wrong_array, wrong_output, first_of, Exactly}
+use Rattle.common.specs.Refusals.{state_not_sound, wrong_array, wrong_output, number_of, first_of, Exactly}
+use Rattle.common.specs.declared.refusals.Refusal.{Refusal}
+use Rattle.common.specs.declared.refusals.Refusal.TheVariants.{WrongOutput}
 use Rattle.common.proofs.Laws.Choice.{cases}
-use Rattle.common.proofs.Laws.Refusals.{Clear, clear, first_of_clear, Given, given_exactly, first_behind, first_before}
+use Rattle.common.proofs.Laws.Refusals.{number_some, Clear, clear, first_of_clear, Given, given_exactly, first_behind, first_before}
 use Rattle.state.specs.State.{data_of}
 use Rattle.state.specs.Soundness.{is_sound, Sound}
 use Rattle.state.proofs.Laws.Soundness.{sound_of, of_sound}
 use Rattle.script.specs.Record.{Record, AllFit, encode, script_length, frames_in, microseconds_in, output_length}
 use Rattle.script.specs.Decode.{Fault, unknown_mark, wrong_length, cut_short, fault_number, is_unknown_mark, is_wrong_length, is_cut_short, Decoded, records, bad_at, is_bad, bad_offset, decode, records_in, records_of}
 use Rattle.script.specs.declared.survey.Surveyed.{Surveyed}
-use Rattle.script.specs.Survey.{survey_refusals, counted_survey, survey_of}
+use Rattle.script.specs.declared.survey.Counts.{Counts}
+use Rattle.script.specs.declared.survey.Refused.{Refused}
+use Rattle.script.specs.Survey.{survey_refusals, counted_survey, no_offset, in_struct, survey_of}
+use Rattle.std.specs.Prelude.{Ok, Err}
 use Rattle.script.proofs.Laws.Records.{encoded_length}
 use Rattle.script.proofs.Laws.Decode.{decode_encode}
 use Rattle.script.proofs.Laws.Survey.{survey_short, survey_by, survey_number, survey_output}
 use Rattle.frame.specs.Device.{Device}
 use Rattle.frame.specs.Line.{Line, is_not_long, Long}
 use Rattle.frame.proofs.Laws.Line.{long_of, of_long}
-use Rattle.run.specs.Script.{chip_refusals, line_refusals, script_refusals, script_number, ScriptAccepted, carries_offset, script_offset}
+use Rattle.run.specs.Script.{chip_refusals, line_refusals, script_refusals, script_number, ScriptAccepted, carries_offset, script_offset, Checked}
 
 -- the number of a bad record carries an offset
 pub fault_carries : (fault : Fault) → carries_offset (fault_number fault) ≡ true
@@ -154,6 +159,41 @@ module _ (wp : Bool) (script : List ℕ) (d : Device) (line : Line) where
   -- "these three alone carry an offset"
   pub offset_only : carries_offset (script_number wp script d line) ≡ false → script_offset wp script d line ≡ 0
   offset_only none = script_located ∙ rw none refl
+
+  -- a refusal that is of no record
+  pub checked_by : (refusal : Refusal) → carries_offset (number_of refusal) ≡ false → number_of refusal ≡ script_number wp script d line
+      → Checked wp script d line (in_struct (Err (no_offset refusal)))
+  checked_by refusal none e = record {
+    number_is = e;
+    offset_is = sym (offset_only (ap carries_offset (sym e) ∙ none));
+    counts_are = λ z. absurd (omega (arith, number_some refusal, z));
+  }
+
+  module _ (sound : is_sound d.state ≡ true) (sized : length d.array ≡ (data_of d.state).size) where
+    -- the survey's
+    pub checked_by_survey : (refused : Refused) → in_struct (Err refused) ≡ survey_of script → Checked wp script d line (in_struct (Err refused))
+    checked_by_survey refused e =
+        let some : eqb (number_of refused.refusal) 0 ≡ false = ne_eqb _ 0 (λ z. omega (arith, number_some refused.refusal, z)) in
+        let number_is : number_of refused.refusal ≡ script_number wp script d line = sym (number_surveyed ∙ rw (← e, sound, eq-eqb _ _ sized, some) refl) in
+        record {
+          number_is = number_is;
+          offset_is =
+              ap (λ (s : Surveyed). s.offset) e ∙ survey_located script
+              ∙ ap (λ (n : ℕ). cond (carries_offset n) (bad_offset (decode script)) 0) (sym (ap (λ (s : Surveyed). s.number) e) ∙ number_is)
+              ∙ sym script_located;
+          counts_are = λ _. e;
+        }
+
+    module _ (counts : Counts) (e : in_struct (Ok counts) ≡ survey_of script) where
+      -- the line's length
+      pub checked_line : is_not_long counts.output line ≡ true → Checked wp script d line (in_struct (Err (no_offset WrongOutput)))
+      checked_line other = checked_by WrongOutput refl (sym (number_surveyed ∙ rw (← e, sound, eq-eqb _ _ sized, other) refl))
+
+      -- and none
+      pub checked_none : is_not_long counts.output line ≡ false → Checked wp script d line (in_struct (Ok counts))
+      checked_none same =
+          let number_is : 0 ≡ script_number wp script d line = sym (number_surveyed ∙ rw (← e, sound, eq-eqb _ _ sized, same) refl) in
+          record { number_is = number_is; offset_is = sym (offset_only (ap carries_offset (sym number_is))); counts_are = λ _. e }
 
   -- it counts what the records do
   pub counts_surveyed : ScriptAccepted wp script d line

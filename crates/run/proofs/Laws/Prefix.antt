@@ -18,8 +18,9 @@ use Rattle.script.specs.Decode.{records, decode, records_in, records_of}
 use Rattle.common.specs.Limits.{longest_script}
 use Rattle.script.specs.Answers.{number_of}
 use Rattle.script.specs.Reader.{record_at}
-use Rattle.script.specs.declared.reader.Found.{Found}
-use Rattle.script.specs.declared.reader.Found.TheVariants.{Frame, Wait, End, Refused}
+use Rattle.std.specs.Prelude.{Some, None, Ok, Err}
+use Rattle.script.specs.Answers.{Read}
+use Rattle.script.specs.declared.reader.Found.TheVariants.{Frame, Wait}
 use Rattle.script.proofs.Laws.Records.{all_fit_append, all_fit_left, encode_append, encoded_length, frames_append, microseconds_append, script_length_append}
 use Rattle.script.proofs.Laws.Decode.{decode_encode, encode_decode, decoded_length}
 use Rattle.script.proofs.Laws.Answers.{Stands, stands_first, good_not_refused, front_told, answer_told}
@@ -162,27 +163,24 @@ module _ {script : List ℕ} {at : ℕ} {done : List Record} (h : ReadTo script 
       record { left = f.others; all = h.all ∙ ap records more; rest = f.decoded; inside = t.inside }
 
   -- a frame is answered: that part of the script
-  pub read_frame : {start n next : ℕ} → record_at script at ≡ Frame start n next → ReadTo script next (done ++ (frame (take n (drop start script)) ∷ []))
-  read_frame {start} {n} {next} e = read_on (answer_told script at (Frame start n next) (sym e) refl).stands
+  pub read_frame : {start n next : ℕ} → record_at script at ≡ Ok (Some (Frame start n next)) → ReadTo script next (done ++ (frame (take n (drop start script)) ∷ []))
+  read_frame {start} {n} {next} e = read_on (answer_told script at (Ok (Some (Frame start n next))) (sym e) refl).stands
 
-  pub read_wait : {n next : ℕ} → record_at script at ≡ Wait n next → ReadTo script next (done ++ (wait n ∷ []))
-  read_wait {n} {next} e = read_on (answer_told script at (Wait n next) (sym e) refl)
+  pub read_wait : {n next : ℕ} → record_at script at ≡ Ok (Some (Wait n next)) → ReadTo script next (done ++ (wait n ∷ []))
+  read_wait {n} {next} e = read_on (answer_told script at (Ok (Some (Wait n next))) (sym e) refl)
 
   -- nowhere on the way is the reader's answer a refusal
   pub read_goes_on : length script ≤ longest_script → number_of (record_at script at) ≡ 0
   read_goes_on short = by (record_at script at) refl
     where
-      by : (found : Found) → record_at script at ≡ found → number_of found ≡ 0
-      by (Frame start n next) e = refl
-      by (Wait n next) e = refl
-      by (End next) e = refl
-      by (Refused number next) e =
-          absurd (good_not_refused h.rest (front_told script at (Refused number next) (sym e ∙ record_at_inside script at short h.inside)).1)
+      by : (found : Read) → record_at script at ≡ found → number_of found ≡ 0
+      by (Ok there) e = refl
+      by (Err refusal) e = absurd (good_not_refused h.rest (front_told script at (Err refusal) (sym e ∙ record_at_inside script at short h.inside)))
 
   -- the end: these are all
-  pub read_end : {next : ℕ} → record_at script at ≡ End next → decode script ≡ records done
-  read_end {next} e =
-      let end = (answer_told script at (End next) (sym e) refl).1.decoded in
+  pub read_end : record_at script at ≡ Ok None → decode script ≡ records done
+  read_end e =
+      let end = (answer_told script at (Ok None) (sym e) refl).decoded in
       let none : h.left ≡ [] = cc in
       h.all ∙ rw (none, append-nil done) refl
 
@@ -253,7 +251,7 @@ module _ {wp : Bool} {script : List ℕ} {begun now : Device} {at : ℕ} (h : Ru
       }
 
   -- the frame that the reader answers, by the call "run a frame"
-  pub run_to_frame : {start n next : ℕ} → record_at script at ≡ Frame start n next → {line line_after : Line} {number : ℕ} {after : Device}
+  pub run_to_frame : {start n next : ℕ} → record_at script at ≡ Ok (Some (Frame start n next)) → {line line_after : Line} {number : ℕ} {after : Device}
       → FrameRun wp (take n (drop start script)) now line number after line_after → number ≡ 0 → RunTo wp script begun next after
   run_to_frame {start} {n} {next} e {line} {line_after} {number} {after} ran good =
       let f : List ℕ = take n (drop start script) in
@@ -261,12 +259,12 @@ module _ {wp : Bool} {script : List ℕ} {begun now : Device} {at : ℕ} (h : Ru
       (ran.device_is ∙ sym (step_by_frame wp now f line (frames.number_accepted wp f now line (sym ran.number_is ∙ good))).device_is)
 
   -- the wait, by the call "let n microseconds pass"
-  pub run_to_wait : {n next : ℕ} → record_at script at ≡ Wait n next → {answer : Answer} → answer ≡ pass_time now.state n
+  pub run_to_wait : {n next : ℕ} → record_at script at ≡ Ok (Some (Wait n next)) → {answer : Answer} → answer ≡ pass_time now.state n
       → RunTo wp script begun next (with_state now answer.state)
   run_to_wait {n} {next} e {answer} is =
       run_on (wait n) (read_wait h.read e)
       (ap (λ (a : Answer). with_state now a.state) (is ∙ pass_time_granted now.state n h.ready.sound) ∙ sym (step_wait wp now n))
 
   -- at the end all is run
-  pub run_to_end : {next : ℕ} → record_at script at ≡ End next → now ≡ run wp (records_of script) begun
+  pub run_to_end : record_at script at ≡ Ok None → now ≡ run wp (records_of script) begun
   run_to_end e = h.device_is ∙ rw (read_end h.read e) refl

@@ -1,31 +1,25 @@
 -- `run::run_script` meets its contract: refused, nothing changes; accepted, the records are run, and the survey has counted them.
-use mathlib.Core.Path.{sym, ◌∙◌}
-use Rattle.frame.specs.Device.{device}
-use Rattle.frame.specs.Line.{on_line}
-use Rattle.run.specs.Script.{ScriptAccepted}
-use Rattle.run.proofs.Laws.Accepted.{number_accepted, offset_surveyed, counts_surveyed}
+use mathlib.Core.Path.{refl, sym, ap, ◌∙◌}
+use native.Mathlib.Omega.{arith}
+use Rattle.common.proofs.Laws.Refusals.{number_some}
+use Rattle.script.specs.declared.survey.Surveyed.{Surveyed}
+use Rattle.run.proofs.Laws.Accepted.{number_accepted, counts_surveyed}
 use Rattle.run.proofs.Laws.Script.{script_refused, script_accepted}
 use Rattle.run.proofs.run_script.Goals as goal
 
-pub script_number-number-requires : goal.script_number-number-requires
-script_number-number-requires c = c.survey_of-survey.ensures
-
--- the offset told is the survey's, where the number carries one
-pub returns-then-number-ne0 : goal.returns-then-number-ne0
-returns-then-number-ne0 c =
-    let number_is = c.script_number-number.ensures in
-    let survey_is = c.survey_of-survey.ensures in
-    let told = rw (number_is, survey_is) at c.script_offset.ensures in
-    rw (number_is, told ∙ sym (offset_surveyed _ _ _ _)) (script_refused _ _ _ _ (λ z. c.if-number-ne0.true (number_is ∙ z)))
+pub returns-in-Err : goal.returns-in-Err
+returns-in-Err c =
+    let told = rw c.in-Err.is at c.check_script.ensures in
+    let some = number_some c.in-Err.refused.refusal in
+    rw (c.number.ensures, told.number_is, told.offset_is) (script_refused _ _ _ _ (λ z. omega (arith, some, told.number_is, z)))
 
 pub run_records-state-requires : goal.run_records-state-requires
-run_records-state-requires c =
-    let took : let a = c.args in ScriptAccepted a.wp a.script.now (device a.s a.array.now) (on_line a.output.now a.driven.now) = number_accepted _ _ _ _ (sym c.script_number-number.ensures ∙ c.if-number-ne0.false) in
-    took
+run_records-state-requires c = let told = rw c.in-Ok.is at c.check_script.ensures in number_accepted _ _ _ _ (sym told.number_is)
 
 pub returns : goal.returns
 returns c =
-    let took : let a = c.args in ScriptAccepted a.wp a.script.now (device a.s a.array.now) (on_line a.output.now a.driven.now) = number_accepted _ _ _ _ (sym c.script_number-number.ensures ∙ c.if-number-ne0.false) in
-    let a = took in
-    let survey_is = c.survey_of-survey.ensures in
-    rw (survey_is, counts_surveyed _ _ _ _ a) (script_accepted _ _ _ _ a c.run_records-state.ensures)
+    let told = rw c.in-Ok.is at c.check_script.ensures in
+    let took = number_accepted _ _ _ _ (sym told.number_is) in
+    let counted = sym (told.counts_are refl ∙ counts_surveyed _ _ _ _ took) in
+    rw (ap (λ (s : Surveyed). s.frames) counted, ap (λ (s : Surveyed). s.microseconds) counted) at
+    (script_accepted _ _ _ _ took c.run_records-state.ensures)

@@ -9,8 +9,9 @@ use native.Mathlib.Omega.{arith}
 use lib.ListN.{length, get_or, drop, drop_of_length-le}
 use lib.Seq.{drop-cons}
 use Rattle.common.proofs.Laws.Turns.{turns_same, by_length}
+use Rattle.std.specs.Option.{is_some}
 use Rattle.names.specs.Records.{Front, none, item, front, front_length}
-use Rattle.names.proofs.Laws.Front.{found}
+use mathlib.Core.Bool.{true, true≢false}
 use Rattle.names.proofs.Laws.Names.{rest_shorter}
 use Rattle.salvage.specs.Pieces.{Piece, kept, dropped, drop_byte, pieces_on, pieces_within, pieces_in}
 use Rattle.salvage.specs.Walk.{StretchEnds}
@@ -119,8 +120,12 @@ pieces_none_run bytes (suc n) at h e =
 pub fresh_end : (bytes : List ℕ) (at : ℕ) → length bytes ≤ at → Fresh (pieces_in (drop at bytes))
 fresh_end bytes at h = rw (drop_of_length-le bytes h, pieces_nil) tt
 
-pub fresh_record : (bytes : List ℕ) → (front_length (front bytes) ≡ 0 → ⊥) → Fresh (pieces_in bytes)
-fresh_record bytes h = rw (pieces_item bytes (found bytes h).is) tt
+pub fresh_record : (bytes : List ℕ) → true ≡ is_some (front_length (front bytes)) → Fresh (pieces_in bytes)
+fresh_record bytes some = by (front bytes) refl some
+  where
+    by : (f : Front) → front bytes ≡ f → true ≡ is_some (front_length f) → Fresh (pieces_in bytes)
+    by none e h = absurd (true≢false h)
+    by (item name rest) e h = rw (pieces_item bytes e) tt
 
 pub stretch_ends : (bytes : List ℕ) (at end : ℕ) → at < end → end ≤ length bytes → ((k : ℕ) → at ≤ k → k < end → front (drop k bytes) ≡ none)
     → Fresh (pieces_in (drop end bytes)) → StretchEnds bytes at end

@@ -8,7 +8,7 @@ use Prim.Native.Nat.{ℕ, zero, suc, ◌+◌, ◌-◌, ◌≤◌, ◌<◌}
 use native.Mathlib.Omega.{arith}
 use lib.Dec.{eqb}
 use lib.ListN.{length, get_or, take, drop, replicate, length-drop, length-replicate, get_or-replicate, take-append-drop, length-append}
-use lib.Seq.{length-take-le, get_or-drop, ext_get_or, take-length, take-append-le}
+use lib.Seq.{length-take-le, get_or-drop, ext_get_or, get_or-take, take-take, take-length, take-append-le}
 use borrow.Author.Tests.{eqb-true, eq-eqb}
 use Rattle.common.proofs.Laws.Booleans.{and_l, and_r, and_i}
 use Rattle.common.proofs.Laws.Choice.{cases}
@@ -159,3 +159,33 @@ module _ (image : List ℕ) where
     erased_all h =
         let zero_is : used ≡ 0 = omega arith in
         sym zero_is ∙ used_exactly image used record { inside = f.inside; erased = f.erased; last = λ k q. absurd (omega arith) }
+
+-- a front of it, with FF behind
+pub record ErasedBehind (image used : List ℕ) : Type 0 where
+  pub front : used ≡ take (length used) image
+  pub erased : ErasedFrom image (length used)
+
+pub behind_start : (image : List ℕ) → ErasedBehind image image
+behind_start image = record { front = sym (take-length image); erased = erased_start image }
+
+module _ (image used : List ℕ) (b : ErasedBehind image used) where
+  used_there : (k : ℕ) → k < length used → get_or used k 0 ≡ get_or image k 0
+  used_there k h = ap (λ (l : List ℕ). get_or l k 0) b.front ∙ get_or-take (length used) image k 0 h
+
+  part_there : length used ≡ used_length image → used ≡ used_part image
+  unfolding used_part
+  part_there e = b.front ∙ ap (λ (n : ℕ). take n image) e
+
+  pub behind_turn : 1 ≤ length used → get_or used (length used - 1) 0 ≡ 0xff → ErasedBehind image (take (length used - 1) used)
+  behind_turn h last =
+      let shorter : length (take (length used - 1) used) ≡ length used - 1 = length-take-le (length used - 1) used (omega arith) in
+      record {
+        front = rw shorter (ap (take (length used - 1)) b.front ∙ take-take (length used - 1) (length used) image (omega arith));
+        erased = rw shorter (erased_turn image (length used) b.erased (omega arith) (sym (used_there (length used - 1) (omega arith)) ∙ last));
+      }
+
+  pub behind_all : length used < 1 → used ≡ used_part image
+  behind_all h = let none : length used ≡ 0 = omega arith in part_there (none ∙ erased_all image (length used) b.erased (omega arith))
+
+  pub behind_found : 1 ≤ length used → (get_or used (length used - 1) 0 ≡ 0xff → ⊥) → used ≡ used_part image
+  behind_found h last = part_there (erased_found image (length used) b.erased (omega arith) (λ e. last (used_there (length used - 1) (omega arith) ∙ e)))

@@ -1,18 +1,20 @@
 -- The walk over the used bytes: what its loops have found, and what they have left to do.
 -- Assumes nothing.
 use mathlib.Core.Path.{◌≡◌, refl, sym, ap, ◌∙◌}
-use mathlib.Core.Bool.{true}
+use mathlib.Core.Bool.{true, false, false≢true}
 use mathlib.Core.List.{List, [], ◌∷◌, ◌++◌}
 use mathlib.Core.Logic.{⊎_elim}
 use Prim.Native.Nat.{ℕ, ◌+◌, ◌-◌, ◌≤◌, ◌<◌}
 use native.Mathlib.Omega.{arith}
 use lib.ListN.{length, take, drop, length-drop, drop_of_length-le}
 use lib.Seq.{drop-drop, take_at}
+use Rattle.std.specs.Prelude.{Some}
+use Rattle.std.specs.Option.{is_some}
 use Rattle.common.specs.Buffer.{Put}
 use Rattle.common.proofs.Laws.Buffer.{Left, left_start, left_room, left_turn, left_none}
 use Rattle.common.proofs.Laws.Lists.{split}
-use Rattle.names.specs.Records.{none, front, front_length, record_bytes, records_bytes}
-use Rattle.names.proofs.Laws.Front.{none_exactly, found, front_item, item_long}
+use Rattle.names.specs.Records.{Front, none, item, front, front_length, record_bytes, records_bytes}
+use Rattle.names.proofs.Laws.Front.{found, front_item, item_long}
 use Rattle.salvage.specs.Pieces.{Piece, kept, pieces_in, kept_names, stretches_from, stretch_bytes, list_bytes}
 use Rattle.salvage.specs.Walk.{StretchEnds, PiecesPut}
 use Rattle.salvage.proofs.Laws.Kept.{records_fit}
@@ -26,6 +28,13 @@ pub record Searched (bytes : List ℕ) (at end : ℕ) : Type 0 where
   pub inside : end ≤ length bytes
   pub nothing : (k : ℕ) → at ≤ k → k < end → front (drop k bytes) ≡ none
 
+none_there : (bytes : List ℕ) → false ≡ is_some (front_length (front bytes)) → front bytes ≡ none
+none_there bytes h = by (front bytes) refl h
+  where
+    by : (f : Front) → front bytes ≡ f → false ≡ is_some (front_length f) → front bytes ≡ none
+    by none e h = e
+    by (item name rest) e h = absurd (false≢true h)
+
 module _ (bytes : List ℕ) (at : ℕ) where
   pub search_start : at < length bytes → front (drop at bytes) ≡ none → Searched bytes at (at + 1)
   search_start h e = record {
@@ -35,19 +44,21 @@ module _ (bytes : List ℕ) (at : ℕ) where
   }
 
   module _ (end : ℕ) (s : Searched bytes at end) where
-    pub search_turn : end < length bytes → front_length (front (drop end bytes)) ≡ 0 → Searched bytes at (end + 1)
+    pub search_turn : end < length bytes → false ≡ is_some (front_length (front (drop end bytes))) → Searched bytes at (end + 1)
     search_turn h e = record {
       onward = omega (arith, s.onward);
       inside = omega arith;
       nothing = λ k a b.
-          ⊎_elim (λ less. s.nothing k a less) (λ from. let here : k ≡ end = omega arith in rw here ((none_exactly (drop end bytes)).when e)) (split k end);
+          ⊎_elim (λ less. s.nothing k a less) (λ from. let here : k ≡ end = omega arith in rw here (none_there (drop end bytes) e)) (split k end);
     }
 
-    pub search_found : (front_length (front (drop end bytes)) ≡ 0 → ⊥) → StretchEnds bytes at end
-    search_found h = stretch_ends bytes at end s.onward s.inside s.nothing (fresh_record (drop end bytes) h)
+    pub search_found : true ≡ is_some (front_length (front (drop end bytes))) → StretchEnds bytes at end
+    search_found some = stretch_ends bytes at end s.onward s.inside s.nothing (fresh_record (drop end bytes) some)
 
-    pub search_end : length bytes ≤ end → StretchEnds bytes at end
-    search_end h = stretch_ends bytes at end s.onward s.inside s.nothing (fresh_end bytes end h)
+    pub search_end : length bytes ≤ end → StretchEnds bytes at (length bytes)
+    search_end h =
+        let all : end ≡ length bytes = omega (arith, s.inside) in
+        rw all at (stretch_ends bytes at end s.onward s.inside s.nothing (fresh_end bytes end h))
 
 -- ---- a record that is kept
 
@@ -59,16 +70,16 @@ pub record KeptAt (bytes : List ℕ) (at n : ℕ) : Type 0 where
   pub long : 3 + length name ≡ n
   pub pieces_are : pieces_in (drop at bytes) ≡ kept name ∷ pieces_in (drop (at + n) bytes)
 
-pub kept_at : (bytes : List ℕ) (at n : ℕ) → n ≡ front_length (front (drop at bytes)) → (n ≡ 0 → ⊥) → KeptAt bytes at n
-kept_at bytes at n e h =
-    let f = found (drop at bytes) (λ z. h (e ∙ z)) in
-    let long : 3 + length f.name ≡ n = sym (e ∙ ap front_length f.is) in
+pub kept_at : (bytes : List ℕ) (at n : ℕ) → Some n ≡ front_length (front (drop at bytes)) → KeptAt bytes at n
+kept_at bytes at n some =
+    let f = found (drop at bytes) n some in
+    let long : 3 + length f.name ≡ n = sym f.size in
     let l = item_long (drop at bytes) f.is in
     let i = front_item (drop at bytes) f.is in
     let behind : f.rest ≡ drop (at + n) bytes = l.rest_is ∙ rw long (drop-drop n at bytes) in
     record {
-      some = omega arith;
-      inside = omega (arith, l.in_all, length-drop at bytes, l.least);
+      some = omega (arith, long);
+      inside = omega (arith, long, l.in_all, length-drop at bytes, l.least);
       name = f.name;
       bytes_are = ap (take n) i.is ∙ take_at (record_bytes true f.name) f.rest n (omega (arith, long));
       long = long;

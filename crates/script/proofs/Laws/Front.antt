@@ -2,6 +2,7 @@
 -- Assumes nothing.
 use mathlib.Core.Path.{◌≡◌, refl, sym, ap, ap₂, ◌∙◌}
 use mathlib.Core.Bool.{true, false, ◌&&◌, ◌||◌}
+use mathlib.Core.Logic.{◌⊎◌, ⊎_elim}
 use mathlib.Core.List.{List, [], ◌∷◌, ◌++◌}
 use Prim.Native.Nat.{ℕ, suc, ◌+◌, ◌/◌, ◌%◌, ◌≤◌, ◌<◌}
 use native.Mathlib.Nat.{div-div-eq-div-mul, div-add-mod'}
@@ -10,7 +11,7 @@ use lib.Dec.{eqb, ltb}
 use lib.ListN.{length, take, drop, length-append, length-drop, take-append-drop}
 use lib.Seq.{take-append_seam, drop-append_seam, length-take-le}
 use borrow.Author.Tests.{eqb-true, ltb-false, lt-ltb, le-ltb}
-use Rattle.common.proofs.Laws.Booleans.{and_l, and_r, or_none_l, or_none_r}
+use Rattle.common.proofs.Laws.Booleans.{and_l, and_r, or_none_l, or_none_r, or_true}
 use Rattle.common.proofs.Laws.Choice.{cond_elim, yes, no}
 use Rattle.script.specs.Record.{Record, frame, wait, script_mark, frame_mark, wait_mark, Fits, encode_record, record_length}
 use Rattle.common.specs.Bits.{Bytes}
@@ -40,6 +41,10 @@ body_whole n rest right h = sym (no _ right (no _ (le-ltb (length rest) n h) ref
 
 pub right_length : (n : ℕ) → 1 ≤ n → n ≤ longest_frame → ltb n 1 || ltb longest_frame n ≡ false
 right_length n least most = rw (le-ltb n 1 least) (le-ltb longest_frame n most)
+
+pub other_length : (n : ℕ) → (n < 1) ⊎ (longest_frame < n) → ltb n 1 || ltb longest_frame n ≡ true
+other_length n wrong =
+    ⊎_elim (λ few. rw (lt-ltb n 1 few) refl) (λ many. rw (lt-ltb longest_frame n many) (or_true (ltb n 1))) wrong
 
 -- a written record is read back, whatever follows it
 pub front_encode : (r : Record) (rest : List ℕ) → Fits r → front (encode_record r ++ rest) ≡ item r rest

@@ -1,21 +1,17 @@
 -- What `front` finds at a record's own bytes: its mark, its length, its frame or its microseconds, whatever follows.
 -- Assumes nothing.
-use mathlib.Core.Path.{◌≡◌, refl, sym, ap, ap₂, ◌∙◌}
-use mathlib.Core.Bool.{false≢true}
+use mathlib.Core.Path.{◌≡◌, refl, ap, ap₂, ◌∙◌}
 use mathlib.Core.List.{List, [], ◌∷◌, ◌++◌, append_assoc}
-use mathlib.Core.Logic.{◌⊎◌, ⊎_elim}
+use mathlib.Core.Logic.{◌⊎◌}
 use Prim.Native.Nat.{ℕ, ◌≤◌, ◌<◌}
 use native.Mathlib.Omega.{arith}
-use lib.Dec.{ltb}
 use lib.ListN.{length, length-append}
 use lib.Seq.{take-append_seam, drop-append_seam}
-use borrow.Author.Tests.{lt-ltb}
 use Rattle.common.specs.Limits.{longest_frame}
 use Rattle.common.specs.Numbers.{two_bytes, four_bytes}
-use Rattle.common.proofs.Laws.Booleans.{imp_or}
 use Rattle.script.specs.Record.{Record, frame, wait, AllFit, script_mark, frame_mark, wait_mark, encode_record, encode, script_length}
 use Rattle.script.specs.Decode.{Fault, wrong_length, item, malformed, front_frame, front_wait, front, bad_at, followed, decode}
-use Rattle.script.proofs.Laws.Front.{right_length, body_wrong, body_whole, front_encode}
+use Rattle.script.proofs.Laws.Front.{right_length, other_length, body_wrong, body_whole, front_encode}
 use Rattle.script.proofs.Laws.Decode.{decode_item, decode_malformed}
 
 pub frame_here : (high low : ℕ) (f rest : List ℕ) → length f ≡ two_bytes high low → 1 ≤ length f → length f ≤ longest_frame
@@ -30,11 +26,7 @@ frame_here high low f rest e least most =
 pub wrong_length_here : (high low : ℕ) (rest : List ℕ) → (two_bytes high low < 1) ⊎ (longest_frame < two_bytes high low)
     → front (script_mark ∷ frame_mark ∷ high ∷ low ∷ rest) ≡ malformed wrong_length
 unfolding front front_frame
-wrong_length_here high low rest wrong =
-    let n : ℕ = two_bytes high low in
-    body_wrong n rest
-    (⊎_elim (λ l. imp_or (ltb n 1) (ltb longest_frame n) (λ f. absurd (false≢true (sym f ∙ lt-ltb n 1 l))))
-    (λ g. imp_or (ltb n 1) (ltb longest_frame n) (λ _. lt-ltb longest_frame n g)) wrong)
+wrong_length_here high low rest wrong = let n : ℕ = two_bytes high low in body_wrong n rest (other_length n wrong)
 
 pub wait_here : (a b c d : ℕ) (rest : List ℕ) → front (script_mark ∷ wait_mark ∷ a ∷ b ∷ c ∷ d ∷ rest) ≡ item (wait (four_bytes a b c d)) rest
 unfolding front front_wait

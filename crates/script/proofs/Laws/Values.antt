@@ -9,15 +9,16 @@ use lib.Dec.{ltb}
 use lib.ListN.{length, drop}
 use borrow.Author.Tests.{le-ltb}
 use Rattle.common.specs.Limits.{longest_script}
-use Rattle.common.specs.Refusals.{script_too_long}
+use Rattle.std.specs.Prelude.{Err}
+use Rattle.common.specs.Refusals
+use Rattle.common.specs.declared.refusals.Refusal.{Refusal}
+use Rattle.common.specs.declared.refusals.Refusal.TheVariants.{ScriptTooLong}
 use Rattle.common.proofs.Laws.Choice.{cond_elim, no}
 use Rattle.script.specs.Record.{frame, wait}
-use Rattle.script.specs.Decode.{cut_short, fault_number, Fault, Front, end, item, malformed, front}
-use Rattle.script.specs.declared.reader.Found.{Found}
-use Rattle.script.specs.declared.reader.Found.TheVariants.{Frame, Wait, End, Refused}
-use Rattle.script.specs.Answers.{case_of, number_of, next_of, microseconds_of, start_of, length_of, part_of}
-use Rattle.script.specs.Reader.{read_in_order, answer, record_at, front_kind, reader_kind, front_number, reader_number, front_next, reader_next, front_microseconds, reader_microseconds, front_start, reader_start, front_length, reader_length, front_part, frame_part, Answered}
-use Rattle.script.proofs.Laws.Answers.{stands, frame_bytes}
+use Rattle.script.specs.Decode.{cut_short, Fault, Front, end, item, malformed, front}
+use Rattle.script.specs.Answers.{Read, case_of, number_of, next_of, microseconds_of, start_of, length_of, part_of}
+use Rattle.script.specs.Reader.{refusal_of, read_in_order, answer, record_at, front_kind, reader_kind, front_number, reader_number, front_next, reader_next, front_microseconds, reader_microseconds, front_start, reader_start, front_length, reader_length, front_part, frame_part, Answered}
+use Rattle.script.proofs.Laws.Answers.{refusal_number, stands, frame_bytes}
 
 module _ (script : List ℕ) (offset : ℕ) where
   -- no frame stands there: the part is empty, whatever else does
@@ -37,7 +38,7 @@ module _ (script : List ℕ) (offset : ℕ) where
       by_front (malformed fault) h = refl
 
   -- a value of the answer, told for each refusal and for each thing that can stand at the offset
-  read_value : {A : Type 0} (value : Found → A) (refused : ℕ → A) (told : Front → A) → ((number : ℕ) → value (Refused number offset) ≡ refused number)
+  read_value : {A : Type 0} (value : Read → A) (refused : Refusal → A) (told : Front → A) → ((refusal : Refusal) → value (Err refusal) ≡ refused refusal)
       → value (answer offset end) ≡ told end
       → ((bytes rest : List ℕ) → front (drop offset script) ≡ item (frame bytes) rest → value (answer offset (item (frame bytes) rest)) ≡ told (item (frame bytes) rest))
       → ((n : ℕ) (rest : List ℕ) → value (answer offset (item (wait n) rest)) ≡ told (item (wait n) rest))
@@ -52,10 +53,10 @@ module _ (script : List ℕ) (offset : ℕ) where
       by_front (malformed fault) q = m fault
 
       by_tests : (long past : Bool)
-          → value (cond long (Refused script_too_long offset) (cond past (Refused (fault_number cut_short) offset) (answer offset (front (drop offset script)))))
-          ≡ cond long (refused script_too_long) (cond past (refused (fault_number cut_short)) (told (front (drop offset script))))
-      by_tests true past = r script_too_long
-      by_tests false true = r (fault_number cut_short)
+          → value (cond long (Err ScriptTooLong) (cond past (Err (refusal_of cut_short)) (answer offset (front (drop offset script)))))
+          ≡ cond long (refused ScriptTooLong) (cond past (refused (refusal_of cut_short)) (told (front (drop offset script))))
+      by_tests true past = r ScriptTooLong
+      by_tests false true = r (refusal_of cut_short)
       by_tests false false = by_front (front (drop offset script)) refl
 
   record_at_kind : case_of (record_at script offset) ≡ reader_kind script offset
@@ -64,11 +65,11 @@ module _ (script : List ℕ) (offset : ℕ) where
 
   pub record_at_number : number_of (record_at script offset) ≡ reader_number script offset
   unfolding reader_number
-  record_at_number = read_value number_of (λ number. number) front_number (λ _. refl) refl (λ _ _ _. refl) (λ _ _. refl) (λ _. refl)
+  record_at_number = read_value number_of Refusals.number_of front_number (λ _. refl) refl (λ _ _ _. refl) (λ _ _. refl) refusal_number
 
-  record_at_next : next_of (record_at script offset) ≡ reader_next script offset
+  record_at_next : next_of offset (record_at script offset) ≡ reader_next script offset
   unfolding reader_next
-  record_at_next = read_value next_of (λ _. offset) (front_next offset) (λ _. refl) refl (λ _ _ _. refl) (λ _ _. refl) (λ _. refl)
+  record_at_next = read_value (next_of offset) (λ _. offset) (front_next offset) (λ _. refl) refl (λ _ _ _. refl) (λ _ _. refl) (λ _. refl)
 
   record_at_microseconds : microseconds_of (record_at script offset) ≡ reader_microseconds script offset
   unfolding reader_microseconds
@@ -88,12 +89,12 @@ module _ (script : List ℕ) (offset : ℕ) where
   record_at_length = read_value length_of (λ _. 0) front_length (λ _. refl) refl (λ _ _ _. refl) (λ _ _. refl) (λ _. refl)
 
   -- every clause of the reader's promise follows from the first
-  pub record_at_answered : {found : Found} → found ≡ record_at script offset → Answered script offset found
+  pub record_at_answered : {found : Read} → found ≡ record_at script offset → Answered script offset found
   record_at_answered e = record {
     answer_is = e;
     kind_is = ap case_of e ∙ record_at_kind;
     number_is = ap number_of e ∙ record_at_number;
-    next_is = ap next_of e ∙ record_at_next;
+    next_is = ap (next_of offset) e ∙ record_at_next;
     microseconds_are = ap microseconds_of e ∙ record_at_microseconds;
     start_is = ap start_of e ∙ record_at_start;
     length_is = ap length_of e ∙ record_at_length;
@@ -106,22 +107,3 @@ module _ (script : List ℕ) (offset : ℕ) where
   frame_part_is_frame short e =
       let s = stands script offset e in
       sym (no _ (le-ltb longest_script (length script) short) (no _ (le-ltb (length script) offset (omega (arith, s.inside, s.least))) (rw e refl)))
-
-  -- "the given offset", of a refusal and of "end"
-  abbrev pub GivenBack : Found → Type 0
-  GivenBack (Frame start n next) = Unit {0}
-  GivenBack (Wait microseconds next) = Unit {0}
-  GivenBack (End next) = next ≡ offset
-  GivenBack (Refused number next) = next ≡ offset
-
-  pub offset_given_back : GivenBack (record_at script offset)
-  unfolding record_at
-  offset_given_back =
-      cond_elim GivenBack (ltb longest_script (length script)) (λ _. refl)
-      (λ _. cond_elim GivenBack (ltb (length script) offset) (λ _. refl) (λ _. by_front (front (drop offset script))))
-    where
-      by_front : (f : Front) → GivenBack (answer offset f)
-      by_front end = refl
-      by_front (item (frame bytes) rest) = tt
-      by_front (item (wait microseconds) rest) = tt
-      by_front (malformed fault) = refl

@@ -4,12 +4,12 @@ use mathlib.Core.Path.{◌≡◌, refl, sym, ap, ◌∙◌}
 use mathlib.Core.Bool.{Bool, true, false, false≢true, true≢false, not, ◌&&◌, ◌||◌}
 use mathlib.Core.List.{List, [], ◌∷◌, ◌++◌}
 use Prim.Native.Nat.{ℕ, zero, suc, ◌+◌, ◌-◌, ◌≤◌, ◌<◌}
-use native.Mathlib.Numerals.{add-one}
 use native.Mathlib.Omega.{arith}
 use lib.Dec.{eqb}
 use lib.ListN.{length, get_or, take, drop, length-append}
-use lib.Seq.{drop-cons, get_or-append-add}
+use lib.Seq.{get_or-append-add}
 use borrow.Author.Tests.{ne_eqb, eqb-true, eqb-false, not-true}
+use Rattle.std.specs.List.{list_any, zip}
 use Rattle.common.specs.Bits.{Bytes}
 use Rattle.common.specs.Buffer.{written, Put}
 use Rattle.common.specs.Refusals.{Exactly}
@@ -111,42 +111,12 @@ missing_exactly wanted there fits = record {
       cases (is_missing wanted there) (λ t. t) (λ f. absurd (m.differs (stands_of wanted there fits f m.place m.inside m.used)));
 }
 
--- a comparison by turns, from one place up to another: the answer is that of the places from k on
-pub record MissingLeft (wanted there : List ℕ) (from to k : ℕ) : Type 0 where
-  pub passed : k ≤ to
-  pub wanted_long : to ≤ length wanted
-  pub there_long : to ≤ length there
-  pub same : is_missing (take (to - k) (drop k wanted)) (drop k there) ≡ is_missing (take (to - from) (drop from wanted)) (drop from there)
-
-pub missing_start : (wanted there : List ℕ) (from to : ℕ) → from ≤ to → to ≤ length wanted → to ≤ length there → MissingLeft wanted there from to from
-missing_start wanted there from to h l m = record { passed = h; wanted_long = l; there_long = m; same = refl }
-
-module _ (wanted there : List ℕ) (from to k : ℕ) (left : MissingLeft wanted there from to k) where
-  missing_turn : k < to
-      → is_missing (take (to - k) (drop k wanted)) (drop k there)
-      ≡ (lacks (get_or wanted k 0) (get_or there k 0) || is_missing (take (to - (k + 1)) (drop (k + 1) wanted)) (drop (k + 1) there))
-  unfolding is_missing
-  missing_turn h =
-      let more : to - k ≡ suc (to - suc k) = omega arith in
-      rw (add-one k, drop-cons wanted k 0 (omega (arith, left.wanted_long)), drop-cons there k 0 (omega (arith, left.there_long)), more) refl
-
-  pub missing_found : k < to → lacks (get_or wanted k 0) (get_or there k 0) ≡ true → true ≡ is_missing (take (to - from) (drop from wanted)) (drop from there)
-  missing_found h t = sym (rw t at (missing_turn h)) ∙ left.same
-
-  pub missing_again : k < to → lacks (get_or wanted k 0) (get_or there k 0) ≡ false → MissingLeft wanted there from to (k + 1)
-  missing_again h f = record {
-    passed = omega arith;
-    wanted_long = left.wanted_long;
-    there_long = left.there_long;
-    same = sym (rw f at (missing_turn h)) ∙ left.same;
-  }
-
-  pub missing_over : to ≤ k → false ≡ is_missing (take (to - from) (drop from wanted)) (drop from there)
-  unfolding is_missing
-  missing_over h =
-      let none : to - k ≡ 0 = omega arith in
-      let over : false ≡ is_missing (take (to - k) (drop k wanted)) (drop k there) = rw none refl in
-      over ∙ left.same
+-- as a search among the places of both
+pub missing_any : (wanted there : List ℕ) → is_missing wanted there ≡ list_any (λ p. lacks p.0 p.1) (zip wanted there)
+unfolding is_missing
+missing_any [] there = refl
+missing_any (w ∷ wanted) [] = refl
+missing_any (w ∷ wanted) (x ∷ there) = ap (λ (t : Bool). lacks w x || t) (missing_any wanted there)
 
 -- ---- which of the two
 

@@ -9,6 +9,7 @@ use native.Mathlib.Nat.{eq-or-lt_of_le}
 use native.Mathlib.Numerals.{add-one}
 use native.Mathlib.Omega.{arith}
 use lib.ListN.{length, get_or}
+use Rattle.std.specs.List.{list_any, range_with_len}
 use Rattle.common.proofs.Laws.Booleans.{or_imp, or_none_l, or_none_r, imp_or, or_none_i}
 use Rattle.common.proofs.Laws.Choice.{cond_elim, cases}
 use Rattle.names.specs.Records.{AllNames}
@@ -94,22 +95,14 @@ read_exactly read ns once s h = let here : 0 + s ≡ s = omega arith in read_fro
 
 -- ---- a read scene past the names
 
-module _ (read : ℕ → Bool) (scene : ℕ) where
-  -- a search at its turn: the scene is read, or it is not, or there is none left
-  pub past_found : scene < 4096 → read scene ≡ true → is_past read scene ≡ true
-  unfolding any_read
-  past_found h e = let more : 4096 - scene ≡ suc (4095 - scene) = omega arith in rw (more, e) refl
+-- as a search among the scenes behind the names
+any_listed : (read : ℕ → Bool) (scene n : ℕ) → any_read read scene n ≡ list_any read (range_with_len scene n)
+unfolding any_read
+any_listed read scene zero = refl
+any_listed read scene (suc n) = rw (add-one scene) (ap (λ (t : Bool). read scene || t) (any_listed read (suc scene) n))
 
-  pub past_turn : scene < 4096 → read scene ≡ false → is_past read scene ≡ is_past read (scene + 1)
-  unfolding any_read
-  past_turn h e =
-      let more : 4096 - scene ≡ suc (4095 - scene) = omega arith in
-      let rest : 4096 - suc scene ≡ 4095 - scene = omega arith in
-      rw (add-one scene, more, e, rest) refl
-
-  pub past_end : 4096 ≤ scene → is_past read scene ≡ false
-  unfolding any_read
-  past_end h = let none : 4096 - scene ≡ 0 = omega arith in rw none refl
+pub past_any : (read : ℕ → Bool) (names : ℕ) → is_past read names ≡ list_any read (range_with_len names (4096 - names))
+past_any read names = any_listed read names (4096 - names)
 
 any_none : (read : ℕ → Bool) (from n : ℕ) → any_read read from n ≡ false → (scene : ℕ) → from ≤ scene → scene < from + n → read scene ≡ false
 unfolding any_read

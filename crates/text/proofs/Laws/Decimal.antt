@@ -9,6 +9,7 @@ use native.Mathlib.Omega.{arith}
 use lib.Dec.{ltb}
 use lib.ListN.{length, get_or, length-append}
 use borrow.Author.Tests.{lt-ltb, le-ltb}
+use Rattle.std.specs.Prelude.{flat_map}
 use Rattle.common.specs.Lists.{Each}
 use Rattle.common.proofs.Laws.Choice.{cond_elim, yes, no}
 use Rattle.common.proofs.Laws.Each.{each_append}
@@ -124,6 +125,11 @@ decimals_none = refl
 pub decimals_first : (n : ℕ) (ns : List ℕ) → decimals (n ∷ ns) ≡ spaced n ++ decimals ns
 unfolding decimals
 decimals_first n ns = refl
+
+-- the numbers, one behind the other
+pub decimals_are : (numbers : List ℕ) → flat_map spaced numbers ≡ decimals numbers
+decimals_are [] = sym decimals_none
+decimals_are (n ∷ ns) = rw (decimals_are ns, decimals_first n ns) refl
 
 -- a line of one number tells that number
 pub decimals_line_one : (letter n : ℕ) → decimals_line letter (n ∷ []) ≡ line letter (decimal n)

@@ -2,6 +2,7 @@
 -- Assumes nothing.
 use mathlib.Core.Path.{◌≡◌, refl}
 use mathlib.Core.List.{List, [], ◌∷◌, ◌++◌}
+use mathlib.Core.Logic.{◌⊎◌, inl, inr}
 use Prim.Native.Nat.{ℕ, suc, ◌+◌, ◌*◌, ◌≤◌}
 use native.Mathlib.Omega.{arith}
 use lib.Dec.{eqb}
@@ -25,6 +26,12 @@ shown_untold byte bytes = refl
 pub shown_first : (byte d : ℕ) (bytes driven : List ℕ) → shown_hex (byte ∷ bytes) (d ∷ driven) ≡ shown_pair byte d ++ shown_hex bytes driven
 unfolding shown_hex
 shown_first byte d bytes driven = refl
+
+-- where either has ended, nothing is left
+pub shown_ended : (bytes driven : List ℕ) → (bytes ≡ []) ⊎ (driven ≡ []) → shown_hex bytes driven ≡ []
+shown_ended bytes driven (inl e) = rw (e, shown_none) refl
+shown_ended [] driven (inr e) = shown_none driven
+shown_ended (byte ∷ bytes) driven (inr e) = rw (e, shown_untold) refl
 
 length_shown_first : (byte d : ℕ) (bytes driven : List ℕ) → length (shown_hex (byte ∷ bytes) (d ∷ driven)) ≡ 2 + length (shown_hex bytes driven)
 length_shown_first byte d bytes driven =

@@ -7,6 +7,7 @@ use native.Mathlib.Omega.{arith}
 use lib.ListN.{length, length-append}
 use borrow.Author.Tests.{lt-ltb}
 use Rattle.common.proofs.Laws.Choice.{yes}
+use Rattle.std.specs.Prelude.{flat_map}
 use Rattle.common.specs.Lists.{tab}
 use Rattle.text.specs.Text.{digit, pair, hex, line_feed, line_of, line}
 
@@ -28,6 +29,11 @@ hex_none = refl
 pub hex_first : (byte : ℕ) (bytes : List ℕ) → hex (byte ∷ bytes) ≡ pair byte ++ hex bytes
 unfolding hex
 hex_first byte bytes = refl
+
+-- the bytes' digits, one byte behind the other
+pub hex_is : (bytes : List ℕ) → flat_map pair bytes ≡ hex bytes
+hex_is [] = sym hex_none
+hex_is (byte ∷ bytes) = rw (hex_is bytes, hex_first byte bytes) refl
 
 -- 0123456789ABCDEF
 pub digits : tab 16 digit

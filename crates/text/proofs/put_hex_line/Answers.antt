@@ -1,15 +1,9 @@
--- `text::put_hex_line` meets its contract: the line's letter, its bytes and its line feed are laid one behind the other.
-use mathlib.Core.List.{[], ◌∷◌}
-use Rattle.text.specs.Text.{hex}
-use Rattle.text.proofs.Laws.Writing.{told_room, feed_room, line_put}
+-- `text::put_hex_line` meets its contract: the bytes' characters are the bytes in hex.
+use Rattle.text.proofs.Laws.Text.{hex_is}
 use Rattle.text.proofs.put_hex_line.Goals as goal
 
-pub put_hex-told-requires : goal.put_hex-told-requires
-put_hex-told-requires c = told_room (c.args.letter ∷ 0x20 ∷ []) (hex c.args.bytes.now) c.requires c.put-begun.ensures
-
-pub put-requires : goal.put-requires
-put-requires c = feed_room (c.args.letter ∷ 0x20 ∷ []) (hex c.args.bytes.now) c.requires c.put-begun.ensures c.put_hex-told.ensures
+pub put_line-requires-clause-room : goal.put_line-requires-clause-room
+put_line-requires-clause-room c = rw (← hex_is c.args.bytes.now) at c.requires
 
 pub returns : goal.returns
-returns c =
-    line_put (c.args.letter ∷ 0x20 ∷ []) (hex c.args.bytes.now) c.requires c.put-begun.ensures c.put_hex-told.ensures c.put.ensures
+returns c = rw hex_is at c.put_line.ensures

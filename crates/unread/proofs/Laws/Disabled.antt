@@ -13,7 +13,27 @@ use borrow.Author.Tests.{eq-eqb}
 use Rattle.common.proofs.Laws.Booleans.{and_i}
 use Rattle.common.proofs.Laws.Choice.{cond_elim, cases}
 use Rattle.common.proofs.Laws.Lists.{split}
-use Rattle.common.proofs.Laws.Pairs.{◌▹◌}
+use Rattle.chip.specs.declared.kinds.Kind.{Kind}
+use Rattle.chip.specs.declared.kinds.Kind.TheVariants.{
+  Unknown,
+  Read,
+  FastRead,
+  SectorErase,
+  BlockErase,
+  ChipErase,
+  ByteProgram,
+  PageProgram,
+  AaiProgram,
+  Rdsr,
+  Ewsr,
+  Wrsr,
+  Wren,
+  Wrdi,
+  DeepPowerDown,
+  Res,
+  JedecId,
+  Rdid,
+}
 use Rattle.chip.specs.Chip.{kind_of}
 use Rattle.chip.proofs.Laws.Chip.{regular, timed_or_at_once}
 use Rattle.state.specs.declared.State.{State}
@@ -33,10 +53,9 @@ use Rattle.command.specs.declared.Command.TheVariants.{
   ProgramWord,
   Sleep,
 }
-use Rattle.command.specs.Command.{when, long, address, writable, rows, command_of}
+use Rattle.command.specs.Command.{when, long, address, writable, by_kind, command_of}
 use Rattle.command.proofs.Laws.Fits.{open_of}
 use Rattle.command.proofs.Laws.Modes.{seen_asleep, seen_at_rest}
-use Rattle.command.proofs.Laws.Rows.{AllRows, look_elim}
 use Rattle.registers.specs.Registers.{state_after}
 use Rattle.registers.proofs.Laws.After.{
   after_ignored,
@@ -98,28 +117,31 @@ module _ (s : State) (off : s.wel ≡ false) where
     abbrev op : ℕ
     op = get_or f 0 0
 
-    rows_harmless : Sound s → AllRows (Harmless s) (kind_of s.chip op) (rows s wp f)
-    rows_harmless h =
-        let a = address s f in
-        (λ _. harmless refl (after_read_array s a 4) off)
-        ▹ (λ _. harmless refl (after_read_array s a 5) off)
-        ▹ (λ _. perhaps _ (long f 4) (λ _. closed (Erase (a / 4096 * 4096) 4096 90000) (a / 4096 * 4096 + 4096)))
-        ▹ (λ _. perhaps _ (long f 4) (λ _. closed (Erase (a / 65536 * 65536) 65536 (data_of s).block_time) (a / 65536 * 65536 + 65536)))
-        ▹ (λ _. perhaps _ (long f 1) (λ _. closed (Erase 0 (data_of s).size (data_of s).chip_time) (0 + (data_of s).size)))
-        ▹ (λ _. perhaps _ (long f 5) (λ _. closed (ProgramByte a) (a + 1)))
-        ▹ (λ _. perhaps _ (leb 5 (length f)) (λ _. closed (ProgramPage a (length f - 4)) (a + 1)))
-        ▹ (λ _. perhaps _ (long f 6) (λ _. closed (ProgramWord (a / 2 * 2) 4) (a / 2 * 2 + 2)))
-        ▹ (λ _. harmless refl (after_read_status s) off)
-        ▹ (λ _. perhaps Arm (long f 1) (λ _. harmless refl (after_arm s) off))
-        ▹ (λ _. perhaps _ (long f 2) (λ _. perhaps _ s.armed
-        (λ armed. perhaps (WriteStatus (get_or f 1 0) (data_of s).status_time) (not s.bpl || wp) (λ _. status_harmless h (get_or f 1 0) armed))))
-        ▹ (λ k. perhaps WriteEnable (long f 1) (λ one. absurd (true≢false (sym (and_i one (eq-eqb op 0x06 ((regular s.chip).wren_only_06 op k))) ∙ other))))
-        ▹ (λ _. perhaps WriteDisable (long f 1) (λ _. harmless refl (after_write_disable s) refl))
-        ▹ (λ _. perhaps Sleep (long f 1) (λ _. harmless refl (after_sleep s) off))
-        ▹ (λ _. harmless refl (after_read_signature s) off)
-        ▹ (λ _. harmless refl (after_read_jedec s) off)
-        ▹ (λ _. harmless refl (after_read_identity s _) off)
-        ▹ tt
+    kind_harmless : Sound s → (kind : Kind) → kind_of s.chip op ≡ kind → Harmless s (by_kind s wp f kind)
+    unfolding by_kind
+    kind_harmless h Unknown k = ignored
+    kind_harmless h Read k = harmless refl (after_read_array s (address s f) 4) off
+    kind_harmless h FastRead k = harmless refl (after_read_array s (address s f) 5) off
+    kind_harmless h SectorErase k =
+        let start = address s f / 4096 * 4096 in perhaps _ (long f 4) (λ _. closed (Erase start 4096 90000) (start + 4096))
+    kind_harmless h BlockErase k =
+        let start = address s f / 65536 * 65536 in perhaps _ (long f 4) (λ _. closed (Erase start 65536 (data_of s).block_time) (start + 65536))
+    kind_harmless h ChipErase k = perhaps _ (long f 1) (λ _. closed (Erase 0 (data_of s).size (data_of s).chip_time) (0 + (data_of s).size))
+    kind_harmless h ByteProgram k = perhaps _ (long f 5) (λ _. closed (ProgramByte (address s f)) (address s f + 1))
+    kind_harmless h PageProgram k = perhaps _ (leb 5 (length f)) (λ _. closed (ProgramPage (address s f) (length f - 4)) (address s f + 1))
+    kind_harmless h AaiProgram k = let even = address s f / 2 * 2 in perhaps _ (long f 6) (λ _. closed (ProgramWord even 4) (even + 2))
+    kind_harmless h Rdsr k = harmless refl (after_read_status s) off
+    kind_harmless h Ewsr k = perhaps Arm (long f 1) (λ _. harmless refl (after_arm s) off)
+    kind_harmless h Wrsr k =
+        perhaps _ (long f 2) (λ _. perhaps _ s.armed
+        (λ armed. perhaps (WriteStatus (get_or f 1 0) (data_of s).status_time) (not s.bpl || wp) (λ _. status_harmless h (get_or f 1 0) armed)))
+    kind_harmless h Wren k =
+        perhaps WriteEnable (long f 1) (λ one. absurd (true≢false (sym (and_i one (eq-eqb op 0x06 ((regular s.chip).wren_only_06 op k))) ∙ other)))
+    kind_harmless h Wrdi k = perhaps WriteDisable (long f 1) (λ _. harmless refl (after_write_disable s) refl)
+    kind_harmless h DeepPowerDown k = perhaps Sleep (long f 1) (λ _. harmless refl (after_sleep s) off)
+    kind_harmless h Res k = harmless refl (after_read_signature s) off
+    kind_harmless h JedecId k = harmless refl (after_read_jedec s) off
+    kind_harmless h Rdid k = harmless refl (after_read_identity s _) off
 
     pub frame_harmless : Sound s → Harmless s (command_of s wp f)
     frame_harmless h =
@@ -127,5 +149,4 @@ module _ (s : State) (off : s.wel ≡ false) where
         let single = not_in_aai h in
         cases s.power_down
         (λ asleep. rw (seen_asleep s f wp still single asleep) (perhaps ReadSignature (eqb op 0xab) (λ _. harmless refl (after_read_signature s) off)))
-        (λ awake. rw (seen_at_rest s f wp record { still = still; single = single; awake = awake })
-        (look_elim (Harmless s) ignored (rows s wp f) (kind_of s.chip op) (rows_harmless h)))
+        (λ awake. rw (seen_at_rest s f wp record { still = still; single = single; awake = awake }) (kind_harmless h (kind_of s.chip op) refl))

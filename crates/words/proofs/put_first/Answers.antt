@@ -11,7 +11,7 @@ use Rattle.words.proofs.put_first.Goals as goal
 pub put_frame-enabled-requires : goal.put_frame-enabled-requires
 unfolding word_records
 put_frame-enabled-requires c =
-    let begun : Whole c.args.at (encode (word_records (wanted_at c.args.start c.args.wanted.now) false true c.args.address)) c.args.buffer.now = left_start _ _ _ c.requires.address_in_bounds in record {
+    let begun : Whole c.args.at (encode (word_records (wanted_at c.args.update.now.start c.args.update.now.wanted.now) false true c.args.address)) c.args.buffer.now = left_start _ _ _ c.requires.address_in_bounds in record {
       bytes_len_bound = omega arith;
       bytes_in_bounds = record_room _ _ begun;
     }
@@ -19,7 +19,7 @@ put_frame-enabled-requires c =
 pub put_frame-sent-requires : goal.put_frame-sent-requires
 unfolding word_records
 put_frame-sent-requires c =
-    let begun : Whole c.args.at (encode (word_records (wanted_at c.args.start c.args.wanted.now) false true c.args.address)) c.args.buffer.now = left_start _ _ _ c.requires.address_in_bounds in record {
+    let begun : Whole c.args.at (encode (word_records (wanted_at c.args.update.now.start c.args.update.now.wanted.now) false true c.args.address)) c.args.buffer.now = left_start _ _ _ c.requires.address_in_bounds in record {
       bytes_len_bound = omega arith;
       bytes_in_bounds = rw (c.wanted_at-odd.ensures, c.wanted_at-even.ensures, c.address_bytes-place.ensures) (record_room _ _ (record_turn _ _ begun c.put_frame-enabled.ensures));
     }
@@ -27,13 +27,13 @@ put_frame-sent-requires c =
 pub put_wait-requires : goal.put_wait-requires
 unfolding word_records
 put_wait-requires c =
-    let begun : Whole c.args.at (encode (word_records (wanted_at c.args.start c.args.wanted.now) false true c.args.address)) c.args.buffer.now = left_start _ _ _ c.requires.address_in_bounds in
+    let begun : Whole c.args.at (encode (word_records (wanted_at c.args.update.now.start c.args.update.now.wanted.now) false true c.args.address)) c.args.buffer.now = left_start _ _ _ c.requires.address_in_bounds in
     record_room _ _ (record_turn _ _ (record_turn _ _ begun c.put_frame-enabled.ensures)
     (rw (c.wanted_at-odd.ensures, c.wanted_at-even.ensures, c.address_bytes-place.ensures) at c.put_frame-sent.ensures))
 
 pub returns : goal.returns
 unfolding word_records
 returns c =
-    let begun : Whole c.args.at (encode (word_records (wanted_at c.args.start c.args.wanted.now) false true c.args.address)) c.args.buffer.now = left_start _ _ _ c.requires.address_in_bounds in
+    let begun : Whole c.args.at (encode (word_records (wanted_at c.args.update.now.start c.args.update.now.wanted.now) false true c.args.address)) c.args.buffer.now = left_start _ _ _ c.requires.address_in_bounds in
     records_done (record_turn _ _ (record_turn _ _ (record_turn _ _ begun c.put_frame-enabled.ensures)
     (rw (c.wanted_at-odd.ensures, c.wanted_at-even.ensures, c.address_bytes-place.ensures) at c.put_frame-sent.ensures)) c.put_wait.ensures)

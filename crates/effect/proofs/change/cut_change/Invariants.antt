@@ -1,7 +1,8 @@
--- `effect::change::cut_change` meets its contract: below k the array is cut, from k on it is as it was, and `place` counts the touched addresses below k.
+-- `effect::change::cut_change` meets its contract: below k the array is cut, from k on it is as it was, and the bytes left of the mask are those behind as many as there are touched addresses below k.
 use mathlib.Core.Path.{◌≡◌}
-use Prim.Native.Nat.{◌-◌, ◌<◌, ◌≤◌}
-use lib.ListN.{length}
+use Prim.Native.Nat.{◌≤◌}
+use lib.ListN.{drop}
+use Rattle.std.specs.Slice.Iter.{iter_rest}
 use Rattle.common.specs.Lists.{mapi, up_to}
 use Rattle.effect.specs.Effect.{span_of}
 use Rattle.effect.specs.Cut.{mask_place, cut}
@@ -9,8 +10,5 @@ use Rattle.effect.proofs.change.cut_change.Given as goal
 
 abbrev pub invariant-loop-k : goal.invariant-loop-k
 invariant-loop-k l =
-    ((span_of l.e).lo ≤ l.k) × (l.k ≤ l.hi) × (l.hi ≡ (span_of l.e).hi) × (l.hi ≤ length l.initial.array) × (length l.initial.array < 4294967296)
-    × (length l.array ≡ length l.initial.array) × (l.place ≤ l.k) × (l.place ≡ mask_place l.e l.k) × (l.array ≡ mapi (up_to l.k (cut l.e l.input l.mask)) l.initial.array)
-
-abbrev pub decreases-loop-k : goal.decreases-loop-k
-decreases-loop-k l = l.hi - l.k
+    (goal.iterator-loop-k).can_next l.k-iterator × (goal.iterator-loop-k).is_finite l.k-iterator × ((span_of l.e).start ≤ l.k-iterator.start) × (l.k-iterator.start ≤ l.k-iterator.end) × (l.k-iterator.end ≡ (span_of l.e).end)
+    × (iter_rest l.bytes ≡ drop (mask_place l.e l.k-iterator.start) l.mask) × (l.array ≡ mapi (up_to l.k-iterator.start (cut l.e l.input l.mask)) l.initial.array)

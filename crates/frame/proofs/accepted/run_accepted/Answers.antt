@@ -37,7 +37,7 @@ change-requires c =
     let d : Supplied c.effect_of.result a.input.now =
     rw (c.effect_of.ensures, e)
     (effect_supplied a.input.now (command_of a.s a.wp a.input.now) (carries a.s a.wp a.input.now)) in
-    (i.order, omega (arith, i.within, c.requires.sized), omega (arith, c.requires.sized, (regular a.s.chip).size_le_mebibyte), d)
+    (omega (arith, i.within, c.requires.sized), omega (arith, c.requires.sized, (regular a.s.chip).size_le_mebibyte), d)
 
 pub state_after-requires : goal.state_after-requires
 state_after-requires c =

@@ -31,7 +31,7 @@ cut_change-requires c =
     let a = c.args in
     let i : Inside (span_of c.effect_of.result) (data_of a.s).size =
     rw (c.effect_of.ensures, c.command_of-c.ensures) (effect_inside a.s (command_of a.s a.wp a.input.now) fit) in
-    (i.order, omega (arith, i.within, c.requires.whole.sized), omega (arith, c.requires.whole.sized, (regular a.s.chip).size_le_mebibyte))
+    (omega (arith, i.within, c.requires.whole.sized), omega (arith, c.requires.whole.sized, (regular a.s.chip).size_le_mebibyte))
 
 pub state_cut-requires : goal.state_cut-requires
 state_cut-requires c =

@@ -5,8 +5,8 @@ use Rattle.frame.specs.Line.{on_line}
 use Rattle.listing.proofs.Laws.Frames.{Shown}
 use Rattle.listing.proofs.frames.put_frame_lines.Given as goal
 
-abbrev pub invariant-loop-length : goal.invariant-loop-length
-invariant-loop-length l = Shown l.script (on_line l.output l.driven) l.initial.text l.at l.shown l.next_line l.text
+abbrev pub invariant-loop-found : goal.invariant-loop-found
+invariant-loop-found l = Shown l.script (on_line l.output l.driven) l.initial.text l.at l.shown l.next_line l.text
 
-abbrev pub decreases-loop-length : goal.decreases-loop-length
-decreases-loop-length l = length l.script - l.at
+abbrev pub decreases-loop-found : goal.decreases-loop-found
+decreases-loop-found l = length l.script - l.at

@@ -1,10 +1,12 @@
 -- `names::name::is_name` meets its contract: the length is asked first.
-use mathlib.Core.Path.{sym, ◌∙◌}
-use Rattle.names.proofs.Laws.Reader.{name_sized, name_not_sized}
+use Rattle.std.proofs.Common.{rules, tests}
+use Rattle.names.specs.Records.{is_name}
 use Rattle.names.proofs.name.is_name.Goals as goal
 
-pub returns-then-bytes : goal.returns-then-bytes
-returns-then-bytes c = sym (name_not_sized _ c.if-bytes.true)
+pub returns-then-contains : goal.returns-then-contains
+unfolding is_name
+returns-then-contains c = search (rules, tests)
 
-pub returns : goal.returns
-returns c = c.all_name.ensures ∙ sym (name_sized _ c.if-bytes.false)
+pub returns-else-contains : goal.returns-else-contains
+unfolding is_name
+returns-else-contains c = search (rules, tests)

@@ -1,47 +1,29 @@
--- `names::record::record_at` meets its contract: the tests that led to a `return` say what `front` finds.
-use mathlib.Core.Path.{◌≡◌, sym, ◌∙◌}
-use Prim.Native.Nat.{◌+◌, ◌-◌}
+-- `names::record::record_at` meets its contract: what the pattern and `get` told says what `front` finds.
+use mathlib.Core.Path.{ap, ◌∙◌}
+use mathlib.Core.Bool.{Bool}
 use native.Mathlib.Omega.{arith}
-use Rattle.names.proofs.Laws.Reader.{reads_end, reads_unmarked, reads_short, reads_half_marked, reads_cut, reads_bad, reads_name}
+use Prim.Native.Nat.{◌+◌}
+use lib.ListN.{length}
+use Rattle.std.specs.Bool.{then_some}
+use Rattle.names.proofs.Laws.Reader.{reads_short, reads_unmarked, reads_half_marked, reads_cut, reads_name}
 use Rattle.names.proofs.record.record_at.Goals as goal
 
-pub returns-then-at-bytes : goal.returns-then-at-bytes
-returns-then-at-bytes c = let a = c.args in reads_end a.bytes.now a.at c.if-at-bytes.true
+pub returns-in_default : goal.returns-in_default
+returns-in_default c = reads_short c.args.bytes.now c.args.at c.in_default.len_below
 
-pub returns-then-bytes-at-ne-FIRST_MARK : goal.returns-then-bytes-at-ne-FIRST_MARK
-returns-then-bytes-at-ne-FIRST_MARK c = let a = c.args in reads_unmarked a.bytes.now a.at c.if-bytes-at-ne-FIRST_MARK.true
+pub returns-in_default-2 : goal.returns-in_default-2
+returns-in_default-2 c = reads_half_marked c.args.bytes.now c.args.at search
 
-pub returns-then-bytes-at-lt-HEAD : goal.returns-then-bytes-at-lt-HEAD
-returns-then-bytes-at-lt-HEAD c = let a = c.args in reads_short a.bytes.now a.at c.if-bytes-at-lt-HEAD.true
+pub returns-in_default-3 : goal.returns-in_default-3
+returns-in_default-3 c = reads_unmarked c.args.bytes.now c.args.at search
 
-pub returns-then-bytes-at-ne-SECOND_MARK : goal.returns-then-bytes-at-ne-SECOND_MARK
-returns-then-bytes-at-ne-SECOND_MARK c =
-    let a = c.args in
-    reads_half_marked a.bytes.now a.at (omega arith) c.if-bytes-at-ne-FIRST_MARK.false c.if-bytes-at-ne-SECOND_MARK.true
-
-pub returns-then-bytes-start : goal.returns-then-bytes-start
-returns-then-bytes-start c =
-    let a = c.args in
-    let n = c.wide-length in
-    reads_cut a.bytes.now a.at (omega arith) c.if-bytes-at-ne-FIRST_MARK.false c.if-bytes-at-ne-SECOND_MARK.false
-    n.result n.ensures.0 c.if-bytes-start.true
-
-pub returns-then-not-is_name : goal.returns-then-not-is_name
-returns-then-not-is_name c =
-    let a = c.args in
-    let n = c.wide-length in
-    let same : a.at + 3 + n.result - (a.at + 3) ≡ n.result = omega arith in
-    let told = rw same at c.is_name.ensures in
-    reads_bad a.bytes.now a.at (omega arith)
-    c.if-bytes-at-ne-FIRST_MARK.false c.if-bytes-at-ne-SECOND_MARK.false
-    n.result n.ensures.0 c.if-bytes-start.false (sym told ∙ c.if-not-is_name.true)
+pub returns-in_err-name : goal.returns-in_err-name
+returns-in_err-name c =
+    let look = c.in_err-name.ensures.lookup in
+    c.from_residual.ensures ∙ reads_cut c.args.bytes.now c.args.at c.in-78.len_at_least (search) (search) c.from.result c.from.ensures (omega (arith, look.0))
 
 pub returns : goal.returns
 returns c =
-    let a = c.args in
-    let n = c.wide-length in
-    let same : a.at + 3 + n.result - (a.at + 3) ≡ n.result = omega arith in
-    let told = rw same at c.is_name.ensures in
-    reads_name a.bytes.now a.at (omega arith)
-    c.if-bytes-at-ne-FIRST_MARK.false c.if-bytes-at-ne-SECOND_MARK.false
-    n.result n.ensures.0 c.if-bytes-start.false (sym told ∙ c.if-not-is_name.false)
+    let look = c.in_ok-name.ensures.lookup.0 in
+    c.then_some.ensures ∙ ap (λ (t : Bool). then_some t (3 + length c.in_ok-name.name.now)) c.is_name.ensures
+    ∙ reads_name c.args.bytes.now c.args.at c.in-78.len_at_least (search) (search) c.from.result c.from.ensures c.in_ok-name.name.now look.2 look.1

@@ -2,56 +2,37 @@
 use mathlib.Core.Path.{sym, ap, ◌∙◌}
 use native.Mathlib.Omega.{arith}
 use Rattle.names.specs.Search.{same_bytes}
-use Rattle.names.proofs.Laws.Sought.{sought_start, sought_step, sought_found, sought_turn, sought_end, search_found}
+use Rattle.names.proofs.Laws.Search.{same_pointwise}
+use Rattle.names.proofs.Laws.Sought.{sought_start, sought_step, sought_found, sought_turn, sought_end}
 use Rattle.names.proofs.search.find.Goals as goal
 
 pub loop-size-init : goal.loop-size-init
-loop-size-init c = sought_start _ _ _ c.record_at-size.ensures
+loop-size-init c = sought_start c.args.bytes.now c.args.name.now
 
-pub overflow_add-start : goal.overflow_add-start
-overflow_add-start c =
-    let step = sought_step c.args.bytes.now c.args.name.now c.loop-size.at c.loop-size.size c.loop-size.invariant c.loop-size-test.true in
-    record { fits = omega (arith, step.size, step.fits) }
-
-pub overflow_add-at : goal.overflow_add-at
-overflow_add-at c =
-    let step = sought_step c.args.bytes.now c.args.name.now c.loop-size.at c.loop-size.size c.loop-size.invariant c.loop-size-test.true in
+pub overflow_add-end : goal.overflow_add-end
+overflow_add-end c =
+    let step = sought_step _ c.args.name.now _ c.loop-size.invariant c.in-Some.size (sym c.in-Some.is ∙ c.record_at.ensures) in
     record { fits = omega (arith, step.fits) }
 
-pub slice_bounds-same-count : goal.slice_bounds-same-count
-slice_bounds-same-count c =
-    let step = sought_step c.args.bytes.now c.args.name.now c.loop-size.at c.loop-size.size c.loop-size.invariant c.loop-size-test.true in
-    omega (arith, step.size)
-
-pub slice_bounds-same-start : goal.slice_bounds-same-start
-slice_bounds-same-start c =
-    let step = sought_step c.args.bytes.now c.args.name.now c.loop-size.at c.loop-size.size c.loop-size.invariant c.loop-size-test.true in
-    omega (arith, step.size)
-
-pub slice_bounds-same-end : goal.slice_bounds-same-end
-slice_bounds-same-end c =
-    let step = sought_step c.args.bytes.now c.args.name.now c.loop-size.at c.loop-size.size c.loop-size.invariant c.loop-size-test.true in
+pub slice_bounds-other-end : goal.slice_bounds-other-end
+slice_bounds-other-end c =
+    let step = sought_step _ c.args.name.now _ c.loop-size.invariant c.in-Some.size (sym c.in-Some.is ∙ c.record_at.ensures) in
     omega (arith, step.fits)
 
-pub returns-then-same : goal.returns-then-same
-returns-then-same c =
-    let step = sought_step c.args.bytes.now c.args.name.now c.loop-size.at c.loop-size.size c.loop-size.invariant c.loop-size-test.true in
-    search_found _ _ _ (sought_found _ _ _ _ c.loop-size.invariant step (sym c.if-same.true ∙ c.same.ensures ∙ ap (same_bytes _) step.name_is))
-
-pub record_at-size-requires-in-loop-size : goal.record_at-size-requires-in-loop-size
-record_at-size-requires-in-loop-size c =
-    let step = sought_step c.args.bytes.now c.args.name.now c.loop-size.at c.loop-size.size c.loop-size.invariant c.loop-size-test.true in
-    step.fits
+pub returns-then-eq : goal.returns-then-eq
+returns-then-eq c =
+    let step = sought_step _ c.args.name.now _ c.loop-size.invariant c.in-Some.size (sym c.in-Some.is ∙ c.record_at.ensures) in
+    sought_found _ _ _ c.loop-size.invariant _ step (sym c.if-eq.true ∙ c.eq.ensures ∙ same_pointwise _ _ ∙ ap (same_bytes _) step.name_is)
 
 pub loop-size-smaller : goal.loop-size-smaller
 loop-size-smaller c =
-    let step = sought_step c.args.bytes.now c.args.name.now c.loop-size.at c.loop-size.size c.loop-size.invariant c.loop-size-test.true in
+    let step = sought_step _ c.args.name.now _ c.loop-size.invariant c.in-Some.size (sym c.in-Some.is ∙ c.record_at.ensures) in
     omega (arith, step.size, step.fits)
 
 pub loop-size-preserved : goal.loop-size-preserved
 loop-size-preserved c =
-    let step = sought_step c.args.bytes.now c.args.name.now c.loop-size.at c.loop-size.size c.loop-size.invariant c.loop-size-test.true in
-    sought_turn _ _ _ _ c.loop-size.invariant step _ (sym c.if-same.false ∙ c.same.ensures ∙ ap (same_bytes _) step.name_is) c.record_at-size-in-loop-size.ensures
+    let step = sought_step _ c.args.name.now _ c.loop-size.invariant c.in-Some.size (sym c.in-Some.is ∙ c.record_at.ensures) in
+    sought_turn _ _ _ c.loop-size.invariant _ step (sym c.if-eq.false ∙ c.eq.ensures ∙ same_pointwise _ _ ∙ ap (same_bytes _) step.name_is)
 
 pub returns : goal.returns
-returns c = sought_end _ _ _ _ c.loop-size.invariant c.loop-size-test.false
+returns c = sought_end _ _ _ c.loop-size.invariant (sym c.in_default.is ∙ c.record_at.ensures)

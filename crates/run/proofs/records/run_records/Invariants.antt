@@ -8,9 +8,9 @@ use Rattle.frame.specs.Line.{on_line}
 use Rattle.run.proofs.Laws.Walk.{Walked}
 use Rattle.run.proofs.records.run_records.Given as goal
 
-abbrev pub invariant-loop-start : goal.invariant-loop-start
-invariant-loop-start l =
+abbrev pub invariant-loop-found : goal.invariant-loop-found
+invariant-loop-found l =
     (length l.initial.driven ≡ length l.initial.output) × Walked l.wp l.script (device l.initial.state l.initial.array) (length l.initial.output) (device l.state l.array) l.at l.laid (on_line l.output l.driven)
 
-abbrev pub decreases-loop-start : goal.decreases-loop-start
-decreases-loop-start l = length l.script - l.at
+abbrev pub decreases-loop-found : goal.decreases-loop-found
+decreases-loop-found l = length l.script - l.at

@@ -1,5 +1,5 @@
 -- `salvage::pieces::list_length` meets its contract: what is listed, and the list of what is left, are together as long as the whole list.
-use mathlib.Core.Path.{sym, ap, ◌∙◌}
+use mathlib.Core.Path.{sym, ap}
 use native.Mathlib.Omega.{arith}
 use lib.ListN.{length}
 use Rattle.names.proofs.Laws.Front.{none_exactly}
@@ -10,39 +10,39 @@ use Rattle.salvage.proofs.pieces.list_length.Goals as goal
 pub loop-at-init : goal.loop-at-init
 loop-at-init c = (omega arith, omega arith)
 
-pub record_at-record-requires : goal.record_at-record-requires
-record_at-record-requires c = c.loop-at.invariant.0
+pub record_at-requires : goal.record_at-requires
+record_at-requires c = c.loop-at.invariant.0
 
 pub stretch_end-at-requires : goal.stretch_end-at-requires
-stretch_end-at-requires c = (c.loop-at-test.true, (none_exactly _).when (sym c.record_at-record.ensures ∙ c.if-record-eq0.true))
+stretch_end-at-requires c = (c.loop-at-test.true, (none_exactly _).when (sym c.in-None.ensures))
 
 pub overflow_add-listed : goal.overflow_add-listed
 overflow_add-listed c =
     let inv = c.loop-at.invariant.1 in
     omega (arith, inv, list_most c.args.bytes.now c.requires)
 
-pub loop-at-smaller-then-record-eq0 : goal.loop-at-smaller-then-record-eq0
-loop-at-smaller-then-record-eq0 c = let s = c.stretch_end-at.ensures in omega (arith, s.onward, s.inside)
+pub loop-at-smaller : goal.loop-at-smaller
+loop-at-smaller c = let s = c.stretch_end-at.ensures in omega (arith, s.onward, s.inside)
 
-pub loop-at-preserved-then-record-eq0 : goal.loop-at-preserved-then-record-eq0
-loop-at-preserved-then-record-eq0 c =
+pub loop-at-preserved : goal.loop-at-preserved
+loop-at-preserved c =
     let s = c.stretch_end-at.ensures in
     let inv = c.loop-at.invariant.1 in
     (s.inside, omega (arith, inv, ap length (list_at_stretch _ _ _ s)))
 
 pub overflow_add-at : goal.overflow_add-at
 overflow_add-at c =
-    let kept : KeptAt c.args.bytes.now c.loop-at.at c.record_at-record.result = kept_at _ _ _ c.record_at-record.ensures c.if-record-eq0.false in
+    let kept : KeptAt c.args.bytes.now c.loop-at.at c.in-Some.size = kept_at _ _ _ c.in-Some.ensures in
     omega (arith, kept.inside)
 
-pub loop-at-smaller : goal.loop-at-smaller
-loop-at-smaller c =
-    let kept : KeptAt c.args.bytes.now c.loop-at.at c.record_at-record.result = kept_at _ _ _ c.record_at-record.ensures c.if-record-eq0.false in
+pub loop-at-smaller-in-Some : goal.loop-at-smaller-in-Some
+loop-at-smaller-in-Some c =
+    let kept : KeptAt c.args.bytes.now c.loop-at.at c.in-Some.size = kept_at _ _ _ c.in-Some.ensures in
     omega (arith, kept.some, kept.inside)
 
-pub loop-at-preserved : goal.loop-at-preserved
-loop-at-preserved c =
-    let kept : KeptAt c.args.bytes.now c.loop-at.at c.record_at-record.result = kept_at _ _ _ c.record_at-record.ensures c.if-record-eq0.false in
+pub loop-at-preserved-in-Some : goal.loop-at-preserved-in-Some
+loop-at-preserved-in-Some c =
+    let kept : KeptAt c.args.bytes.now c.loop-at.at c.in-Some.size = kept_at _ _ _ c.in-Some.ensures in
     let inv = c.loop-at.invariant.1 in
     (kept.inside, omega (arith, inv, ap length (list_at_kept _ _ _ kept)))
 

@@ -1,29 +1,35 @@
 -- `script::reader::frame_at` meets its contract: the tests that led to a `return` say which case of `front_frame` holds.
-use mathlib.Core.Path.{sym, ◌∙◌}
+use mathlib.Core.Path.{◌≡◌, sym, ap, ◌∙◌}
+use mathlib.Core.List.{List}
+use mathlib.Core.Logic.{inl, inr, ⊎_elim}
+use Prim.Native.Nat.{ℕ, ◌-◌}
 use native.Mathlib.Omega.{arith}
+use lib.ListN.{length, take, drop, length-drop}
+use Rattle.std.proofs.lemmas.List.{take_rest}
+use Rattle.script.proofs.Laws.Front.{right_length, other_length}
 use Rattle.script.proofs.Laws.Reader.{frame_no_length, frame_wrong_length, frame_cut_short, frame_whole}
 use Rattle.script.proofs.reader.frame_at.Goals as goal
 
-pub returns-then-script-start : goal.returns-then-script-start
-returns-then-script-start c =
-    let a = c.args in
-    c.refused.ensures ∙ sym (frame_no_length a.script.now a.offset (omega arith) c.if-script-start.true)
+left : (bytes : List ℕ) → length (take (length bytes - 2) (drop 2 bytes)) ≡ length bytes - 2
+left bytes = ap length (take_rest bytes 2) ∙ length-drop 2 bytes
 
-pub returns-then-length : goal.returns-then-length
-returns-then-length c =
-    let a = c.args in
-    let n = c.two_bytes_at-length in
-    c.refused-then-length.ensures ∙ sym (frame_wrong_length a.script.now a.offset n.result (omega arith) n.ensures.0 c.if-length.true)
+pub returns-in_default : goal.returns-in_default
+returns-in_default c = sym (frame_no_length c.args.bytes.now c.args.offset 0 c.in_default.len_below)
 
-pub returns-then-script-start-2 : goal.returns-then-script-start-2
-returns-then-script-start-2 c =
-    let a = c.args in
-    let n = c.two_bytes_at-length in
-    c.refused-then-script-start-2.ensures
-    ∙ sym (frame_cut_short a.script.now a.offset n.result (omega arith) n.ensures.0 c.if-length.false c.if-script-start-2.true)
+pub returns-then-length-lt1 : goal.returns-then-length-lt1
+returns-then-length-lt1 c =
+    let n = c.from-length in
+    let wrong = other_length n.result (⊎_elim inl (λ many. inr many.1) c.then-length-lt1.either) in
+    sym (frame_wrong_length c.args.bytes.now c.args.offset 0 n.result c.in-len2-up.len_at_least (n.ensures ∙ c.from_be_bytes.ensures) wrong)
+
+pub returns-then-rest-length : goal.returns-then-rest-length
+returns-then-rest-length c =
+    let n = c.from-length in
+    let right = right_length n.result c.if-length-lt1.false c.if-length-gt-LONGEST_FRAME.false in
+    sym (frame_cut_short c.args.bytes.now c.args.offset 0 n.result c.in-len2-up.len_at_least (n.ensures ∙ c.from_be_bytes.ensures) right (omega (arith, left c.args.bytes.now, c.if-rest-length.true)))
 
 pub returns : goal.returns
 returns c =
-    let a = c.args in
-    let n = c.two_bytes_at-length in
-    sym (frame_whole a.script.now a.offset n.result (omega arith) n.ensures.0 c.if-length.false c.if-script-start-2.false)
+    let n = c.from-length in
+    let right = right_length n.result c.if-length-lt1.false c.if-length-gt-LONGEST_FRAME.false in
+    sym (frame_whole c.args.bytes.now c.args.offset 0 n.result c.in-len2-up.len_at_least (n.ensures ∙ c.from_be_bytes.ensures) right (omega (arith, left c.args.bytes.now, c.if-rest-length.false)))

@@ -6,13 +6,12 @@ use Rattle.script.proofs.reader.record_at.Goals as goal
 
 pub returns-then-script-gt-LONGEST_SCRIPT : goal.returns-then-script-gt-LONGEST_SCRIPT
 returns-then-script-gt-LONGEST_SCRIPT c =
-    let a = c.args in
-    record_at_answered _ _ (c.refused.ensures ∙ sym (record_at_long a.script.now a.offset c.if-script-gt-LONGEST_SCRIPT.true))
+    let a = c.args in record_at_answered _ _ (sym (record_at_long a.script.now a.offset c.if-script-gt-LONGEST_SCRIPT.true))
 
 pub returns-then-script-offset : goal.returns-then-script-offset
 returns-then-script-offset c =
     let a = c.args in
-    record_at_answered _ _ (c.refused-then-script-offset.ensures ∙ sym (record_at_past a.script.now a.offset c.if-script-gt-LONGEST_SCRIPT.false c.if-script-offset.true))
+    record_at_answered _ _ (sym (record_at_past a.script.now a.offset c.if-script-gt-LONGEST_SCRIPT.false c.if-script-offset.true))
 
 pub returns : goal.returns
 returns c =

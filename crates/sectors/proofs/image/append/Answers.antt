@@ -4,8 +4,11 @@ use mathlib.Core.Bool.{true, false}
 use mathlib.Core.List.{List, [], ◌∷◌, ◌++◌, append-nil}
 use Prim.Native.Nat.{ℕ, ◌+◌, ◌-◌, ◌≤◌}
 use native.Mathlib.Omega.{arith}
-use lib.ListN.{length, take, drop}
+use lib.ListN.{length, take, drop, length-drop}
 use lib.Seq.{length-take-le}
+use borrow.Author.Rules.{rules}
+use borrow.Rule.Slice.PartMut.{mid_of}
+use Rattle.std.proofs.Common.{take_all}
 use Rattle.common.specs.Buffer.{Put}
 use Rattle.names.specs.Records.{record_bytes, records_bytes, padded}
 use Rattle.names.proofs.Laws.Padded.{padded_long}
@@ -53,7 +56,11 @@ returns-then-not-is_missing c =
     let long : length front ≡ a.end = length-take-le a.end a.image.now (omega arith) in
     let fits = c.requires.3 in
     let first = first_laid a.image.now front a.name.now a.end long fits _ _ _ _ _ c.requires.0 c.put.ensures c.put_record-behind.ensures in
-    let told = c.is_missing.ensures ∙ first_missing a.image.now front a.name.now a.end long fits _ _ first c.put_record-behind.ensures.behind in
+    let part : mid_of a.end (c.put_record-behind.result - a.end) c.put_record-behind.new.buffer
+    ≡ take (c.put_record-behind.result - a.end) (drop a.end c.put_record-behind.new.buffer) = search rules in
+    let rest : take (length a.image.now - a.end) (drop a.end a.image.now) ≡ drop a.end a.image.now =
+    take_all _ _ (omega (arith, length-drop a.end a.image.now)) in
+    let told = rw (part, rest) at c.is_missing.ensures ∙ first_missing a.image.now front a.name.now a.end long fits _ _ first c.put_record-behind.ensures.behind in
     second_laid a.image.now front a.name.now a.end long fits _ _ _ first c.put_record.ensures
     ∙ sym (wanted_second _ _ _ (sym told ∙ c.if-not-is_missing.true))
 
@@ -64,5 +71,9 @@ returns-else-not-is_missing c =
     let long : length front ≡ a.end = length-take-le a.end a.image.now (omega arith) in
     let fits = c.requires.3 in
     let first = first_laid a.image.now front a.name.now a.end long fits _ _ _ _ _ c.requires.0 c.put.ensures c.put_record-behind.ensures in
-    let told = c.is_missing.ensures ∙ first_missing a.image.now front a.name.now a.end long fits _ _ first c.put_record-behind.ensures.behind in
+    let part : mid_of a.end (c.put_record-behind.result - a.end) c.put_record-behind.new.buffer
+    ≡ take (c.put_record-behind.result - a.end) (drop a.end c.put_record-behind.new.buffer) = search rules in
+    let rest : take (length a.image.now - a.end) (drop a.end a.image.now) ≡ drop a.end a.image.now =
+    take_all _ _ (omega (arith, length-drop a.end a.image.now)) in
+    let told = rw (part, rest) at c.is_missing.ensures ∙ first_missing a.image.now front a.name.now a.end long fits _ _ first c.put_record-behind.ensures.behind in
     first ∙ sym (wanted_first _ _ _ (sym told ∙ c.if-not-is_missing.false))

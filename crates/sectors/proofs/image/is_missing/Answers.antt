@@ -1,19 +1,14 @@
--- `sectors::image::is_missing` meets its contract: the invariant says that the answer is that of the places left.
-use native.Mathlib.Omega.{arith}
-use Rattle.sectors.proofs.Laws.Images.{missing_start, missing_found, missing_again, missing_over}
+-- `sectors::image::is_missing` meets its contract: a search among the places of both.
+use mathlib.Core.Path.{sym, ◌∙◌}
+use Rattle.std.proofs.Common.{rules, tests}
+use Rattle.std.proofs.lemmas.Iterator.{YieldsList-from_slice, YieldsList-from_zip}
+use Rattle.std.proofs.lemmas.Iterator.Consumers.{YieldsList-at}
+use Rattle.std.proofs.lemmas.Iterator.Search.{any_from_yields_List}
+use Rattle.sectors.proofs.Laws.Images.{lacks, missing_any}
 use Rattle.sectors.proofs.image.is_missing.Goals as goal
 
-pub loop-k-init : goal.loop-k-init
-loop-k-init c = missing_start _ _ _ _ c.requires.0 c.requires.1 c.requires.2
-
-pub returns-then-wanted-k : goal.returns-then-wanted-k
-returns-then-wanted-k c = missing_found _ _ _ _ _ c.loop-k.invariant c.loop-k-test.true c.if-wanted-k.true
-
-pub loop-k-smaller : goal.loop-k-smaller
-loop-k-smaller c = omega arith
-
-pub loop-k-preserved : goal.loop-k-preserved
-loop-k-preserved c = missing_again _ _ _ _ _ c.loop-k.invariant c.loop-k-test.true c.if-wanted-k.false
-
 pub returns : goal.returns
-returns c = missing_over _ _ _ _ _ c.loop-k.invariant c.loop-k-test.false
+returns c =
+    any_from_yields_List (λ p. lacks p.0 p.1) c.any.new.self _ c.any.result c.any.ensures.ran
+    (YieldsList-from_zip (YieldsList-at c.zip.ensures.first (YieldsList-from_slice c.args.wanted.now c.iter.ensures.rest)) (YieldsList-from_slice {s = c.zip.result.b} c.args.there.now c.zip.ensures.second.0)) (λ x b q k. search (rules, tests))
+    ∙ sym (missing_any c.args.wanted.now c.args.there.now)

@@ -1,69 +1,37 @@
 -- `sectors::moving::put_read` meets its contract: the records of the names passed are laid, and those of the names left go behind them.
-use mathlib.Core.Path.{◌≡◌}
-use native.Mathlib.Omega.{arith}
+use mathlib.Core.Path.{◌≡◌, sym, ◌∙◌}
 use lib.ListN.{length}
 use borrow.Author.Rules.{rules}
-use Rattle.sectors.proofs.Laws.Moving.{moving_start, moving_inside, moving_scene, moving_most, moving_fits, moving_too_long, moving_read, moving_unread, moving_end, moved_too_long}
+use Rattle.namelist.proofs.Laws.Listed.{good_exactly}
+use Rattle.sectors.proofs.Laws.Moving.{moving_start, moving_scene, moving_most, moving_too_long, moving_read, moving_unread, moving_end, moved_too_long}
 use Rattle.sectors.proofs.moving.put_read.Goals as goal
 use Rattle.sectors.proofs.moving.put_read.Goals.{then-read+else-end-name, else-read}
 
-pub loop-at-init : goal.loop-at-init
-loop-at-init c = moving_start _ _ _ _ _ c.requires.1
-
-pub name_at-name-requires : goal.name_at-name-requires
-name_at-name-requires c = (c.loop-at-test.true, moving_inside _ _ _ _ _ _ _ _ _ c.loop-at.invariant c.loop-at-test.true)
+pub loop-scene-init : goal.loop-scene-init
+loop-scene-init c = moving_start _ _ _ _ _ _ ((good_exactly c.args.names.now.bytes.now).when c.args.names.now.good) c.iter-name-items.ensures
 
 pub scene_read-read-requires : goal.scene_read-read-requires
-scene_read-read-requires c =
-    (c.requires.0, moving_scene _ _ _ _ _ _ _ _ _ c.loop-at.invariant c.loop-at-test.true c.requires.1)
-
-pub overflow_sub-end : goal.overflow_sub-end
-overflow_sub-end c = omega (arith, c.loop-at.invariant.inside)
-
-pub overflow_add-name : goal.overflow_add-name
-overflow_add-name c =
-    let l = c.loop-at in
-    omega (arith, moving_most _ _ _ _ _ _ _ _ _ l.invariant c.loop-at-test.true _ c.name_at-name.ensures)
+scene_read-read-requires c = moving_scene _ _ _ _ _ _ _ _ _ c.loop-scene.invariant _ _ c.in-Some.ensures.steps
 
 pub returns-then-end-name : goal.returns-then-end-name
 returns-then-end-name c =
-    let l = c.loop-at in
     moved_too_long _ _ _ _ _ _
-    (moving_too_long _ _ _ _ _ _ _ _ _ l.invariant c.loop-at-test.true _ c.name_at-name.ensures
-    (cc) c.if-end-name.true)
+    (moving_too_long _ _ _ _ _ _ _ _ _ c.loop-scene.invariant _ _ c.in-Some.ensures.steps (sym c.scene_read-read.ensures ∙ c.if-read.true) c.if-end-name.true)
 
 pub put_record-end-requires : goal.put_record-end-requires
-put_record-end-requires c =
-    let l = c.loop-at in
-    (moving_most _ _ _ _ _ _ _ _ _ l.invariant c.loop-at-test.true _ c.name_at-name.ensures, search rules)
+put_record-end-requires c = (moving_most _ _ _ _ _ _ _ _ _ c.loop-scene.invariant _ _ c.in-Some.ensures.steps, search rules)
 
-pub overflow_add-scene : goal.overflow_add-scene
-overflow_add-scene c =
-    let l = c.loop-at in
-    omega (arith, moving_scene _ _ _ _ _ _ _ _ _ l.invariant c.loop-at-test.true c.requires.1)
-
-pub overflow_add-at-in-loop-at : goal.overflow_add-at-in-loop-at
-overflow_add-at-in-loop-at c =
-    let l = c.loop-at in
-    omega (arith, moving_fits _ _ _ _ _ _ _ _ _ l.invariant c.loop-at-test.true _ c.name_at-name.ensures)
-
-pub loop-at-smaller : goal.loop-at-smaller
-loop-at-smaller c =
-    let l = c.loop-at in
-    omega (arith, moving_fits _ _ _ _ _ _ _ _ _ l.invariant c.loop-at-test.true _ c.name_at-name.ensures)
-
-pub loop-at-preserved : goal.loop-at-preserved
-loop-at-preserved c =
-    let l = c.loop-at in
-    let h = c.loop-at-test.true in
-    let e = c.name_at-name.ensures in
+pub loop-scene-preserved : goal.loop-scene-preserved
+loop-scene-preserved c =
+    let l = c.loop-scene in
+    let e = c.in-Some.ensures.steps in
     elim c.if-read.branch [
       | then-read+else-end-name w ↦
           let long : length l.wanted ≡ 4096 = search rules in
-          let next = moving_read _ _ _ _ _ _ _ _ _ l.invariant h _ e (cc) _ _ w.if-end-name.false long w.put_record-end.ensures in
+          let next = moving_read _ _ _ _ _ _ _ _ _ l.invariant _ _ e (sym c.scene_read-read.ensures ∙ w.if-read.true) _ _ w.if-end-name.false long w.put_record-end.ensures in
           rw (w.wanted-is, w.end-is) next
-      | else-read w ↦ rw (w.wanted-is, w.end-is) (moving_unread _ _ _ _ _ _ _ _ _ l.invariant h _ e (cc))
+      | else-read w ↦ rw (w.wanted-is, w.end-is) (moving_unread _ _ _ _ _ _ _ _ _ l.invariant _ _ e (sym c.scene_read-read.ensures ∙ w.if-read.false))
     ]
 
 pub returns : goal.returns
-returns c = moving_end _ _ _ _ _ _ _ _ _ c.loop-at.invariant c.loop-at-test.false
+returns c = moving_end _ _ _ _ _ _ _ _ _ c.loop-scene.invariant c.in-None.ensures.steps.0

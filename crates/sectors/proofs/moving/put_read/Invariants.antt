@@ -1,11 +1,8 @@
 -- `sectors::moving::put_read` meets its contract: the records of the names passed are laid, and those of the names left go behind them.
-use Prim.Native.Nat.{◌-◌}
-use lib.ListN.{length}
+use Rattle.namelist.specs.Listed.{listed, names_in}
 use Rattle.sectors.proofs.Laws.Moving.{Moving}
 use Rattle.sectors.proofs.moving.put_read.Given as goal
 
-abbrev pub invariant-loop-at : goal.invariant-loop-at
-invariant-loop-at l = Moving l.array l.book l.list l.marked l.initial.wanted l.wanted l.at l.scene l.end
-
-abbrev pub decreases-loop-at : goal.decreases-loop-at
-decreases-loop-at l = length l.list - l.at
+abbrev pub invariant-loop-scene : goal.invariant-loop-scene
+invariant-loop-scene l =
+    Moving l.book.array.now l.book.sector l.names.bytes.now l.marked l.initial.wanted l.wanted (names_in (listed l.name-iterator.left.now)) l.scene l.end

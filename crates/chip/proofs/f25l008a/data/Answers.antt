@@ -1,6 +1,0 @@
--- `chip::f25l008a::data` meets its contract: field by field it is the definition's.
-use mathlib.Core.Path.{refl}
-use Rattle.chip.proofs.f25l008a.data.Goals as goal
-
-pub returns : goal.returns
-returns c = refl
