@@ -10,31 +10,29 @@ pub mod telling; // what the bytes say
 ghost use Rattle.std.specs.Prelude.{◌≡◌};
 ghost use Rattle.book.specs.Answers.{is_read_told, count_told, Marks};
 
-use refusal::{check_book, has_over};
+use refusal::has_over;
 use sizes::LAST_SCENE;
 use state::{Planned, State, Told};
-use telling::Book;
+pub use telling::Book;
 
 // Whether a scene is read: 1 or 0.
 pub fn is_read(s: State, array: &[u8], sector: usize, scene: u32) -> Told
     ensures { result ≡ is_read_told s array.now sector scene }
 {
-    if let Err(refusal) = check_book(s, array.len(), sector, LAST_SCENE < scene) {
-        return state::tell(refusal.number(), s, 0);
+    match Book::open(s, array, sector, LAST_SCENE < scene) {
+        Ok(book) => state::tell(0, s, u32::from(book.scene_read(scene))),
+        Err(refusal) => state::tell(refusal.number(), s, 0),
     }
-    let book = Book { array, sector };
-    state::tell(0, s, u32::from(book.scene_read(scene)))
 }
 
 // How many scenes are read.
 pub fn count_read(s: State, array: &[u8], sector: usize) -> Told
     ensures { result ≡ count_told s array.now sector }
 {
-    if let Err(refusal) = check_book(s, array.len(), sector, false) {
-        return state::tell(refusal.number(), s, 0);
+    match Book::open(s, array, sector, false) {
+        Ok(book) => state::tell(0, s, book.scenes_read()),
+        Err(refusal) => state::tell(refusal.number(), s, 0),
     }
-    let book = Book { array, sector };
-    state::tell(0, s, book.scenes_read())
 }
 
 // Plan the marking of a list of scenes: the script goes to the front of the buffer.
@@ -48,10 +46,10 @@ pub fn mark(
 ) -> Planned
     ensures { Marks s wp array.now sector scenes.now buffer.old buffer.new result }
 {
-    if let Err(refusal) = check_book(s, array.len(), sector, has_over(scenes)) {
-        return state::refuse_plan(refusal.number(), s);
-    }
-    let book = Book { array, sector };
+    let book = match Book::open(s, array, sector, has_over(scenes)) {
+        Ok(book) => book,
+        Err(refusal) => return state::refuse_plan(refusal.number(), s),
+    };
     let mut used = book.used_bytes();
     marking::mark_scenes(scenes, &mut used);
     promises::plan_update(s, wp, array, sector, &used, buffer)

@@ -8,6 +8,7 @@ use crate::sizes::LAST_SCENE;
 use common::limits::SECTOR;
 use common::refusals::Refusal;
 use state::State;
+use state::soundness::check_chip;
 
 // Whether a scene of the list is over 4,095.
 pub fn has_over(scenes: &[u32]) -> bool
@@ -17,23 +18,19 @@ pub fn has_over(scenes: &[u32]) -> bool
 }
 
 // Whether a sector of the chip begins there.
+#[tactic(auto, unfolding(crate::specs::Refusals::is_sector))]
 pub fn is_sector(s: State, start: usize) -> bool
     ensures { result ≡ is_sector (data_of s).size start }
 {
-    (start % SECTOR == 0) & (start < chip::chip_of(s.chip).size as usize)
+    start % SECTOR == 0 && start < chip::chip_of(s.chip).size as usize
 }
 
-// `size` is the array's length, `over` whether a scene is over 4,095.
-pub fn check_book(s: State, size: usize, sector: usize, over: bool) -> Result<(), Refusal>
-    ensures { number_in result ≡ first_of (book_refusals s size sector over) }
+// `size` is the array's length, `wrong` what else is wrong with the call's book: a scene over 4,095, or the other sector that the call names.
+pub fn check_book(s: State, size: usize, sector: usize, wrong: bool) -> Result<(), Refusal>
+    ensures { number_in result ≡ first_of (book_refusals s size sector wrong) }
 {
-    if !state::soundness::is_sound(s) {
-        return Err(Refusal::StateNotSound);
-    }
-    if size != chip::chip_of(s.chip).size as usize {
-        return Err(Refusal::WrongArray);
-    }
-    if over | !is_sector(s, sector) {
+    check_chip(s, size)?;
+    if wrong || !is_sector(s, sector) {
         return Err(Refusal::WrongBook);
     }
     Ok(())

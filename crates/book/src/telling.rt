@@ -1,10 +1,15 @@
-// What the bytes of a book say.
-ghost use Rattle.std.specs.Prelude.{◌≡◌, ◌+◌, ◌≤◌, ◌<◌, ◌*◌, length};
+// A book of the array, and what its bytes say.
+ghost use Rattle.std.specs.Prelude.{◌≡◌, ◌+◌, ◌≤◌, ◌<◌, ◌*◌, length, IfOk};
 ghost use Rattle.common.specs.Lists.{count_below};
+ghost use Rattle.common.specs.Refusals.{number_in, first_of};
 ghost use Rattle.book.specs.Book.{is_read, count_read, used_part};
+ghost use Rattle.book.specs.Refusals.{book_refusals};
 
+use crate::refusal::check_book;
 use crate::sizes::USED;
 use common::limits::ERASED;
+use common::refusals::Refusal;
+use state::State;
 
 // The book whose used bytes begin at a sector's start: they lie in the array.
 #[derive(Clone, Copy)]
@@ -15,6 +20,15 @@ pub struct Book<'a> {
 }
 
 impl<'a> Book<'a> {
+    // The book at a sector, by `check_book`.
+    pub fn open(s: State, array: &'a [u8], sector: usize, wrong: bool) -> Result<Book<'a>, Refusal>
+        ensures number { number_in result ≡ first_of (book_refusals s (length array.now) sector wrong) }
+        ensures opened { IfOk result (λ book. (book.array.now ≡ array.now) × (book.sector ≡ sector)) }
+    {
+        check_book(s, array.len(), sector, wrong)?;
+        Ok(Book { array, sector })
+    }
+
     pub fn scene_read(&self, scene: u32) -> bool
         requires { scene < 4096 }
         ensures { result ≡ is_read self.now.array.now self.now.sector scene }
@@ -40,7 +54,7 @@ impl<'a> Book<'a> {
     }
 }
 
-// Of the scenes of these bytes: each zero is one that is read.
+// How many zeros the bytes have: each is a scene that is read.
 fn zeros_in(bytes: &[u8]) -> u32
     requires { length bytes.now ≤ 512 }
     ensures { result ≡ count_below (is_read bytes.now 0) (length bytes.now * 8) }

@@ -25,7 +25,7 @@ pub struct Chip {
     // microseconds of a block erase and of a chip erase; nothing takes longer than the latter
     pub block_time: u32,
     pub chip_time: u32,
-    // microseconds of a status write; 0 where it is done at once
+    // microseconds of a status write; 0 where it is done at once, and no Option, since it is added up as it is
     pub status_time: u32,
     // AD programs words (AAI)
     pub aai: bool,
@@ -64,7 +64,7 @@ pub fn is_known(number: u8) -> bool
     number == 8 || number == 5
 }
 
-// The opcode's kind on the chip of a number.
+// The opcode's kind on the chip of a number. "One constant table per chip" (01), so the choice stands here as in `chip_of`, for a table in place of data.
 pub fn kind_of(number: u8, op: u8) -> Kind
     ensures { result ≡ kind_of number op }
 {

@@ -50,7 +50,8 @@ fn in_aai(s: State, op: u8, input: &[u8]) -> Command
 }
 
 // The frame understood: while busy only 05 is taken, in power-down only AB.
-// No type holds the bound on the next address or on the frame's length: each goes down one chain of calls, and is asked for once, at its end.
+// No type holds the bound on the next address or on the frame's length: each is handed down from here to the one row that needs it, and a type would be
+// made here and taken apart there.
 #[tactic(auto, unfolding(crate::specs::Command::command_of))]
 pub fn command_of(s: State, wp: bool, input: &[u8]) -> Command
     requires { (s.next < 2097152) × (length input.now ≤ longest_frame) }

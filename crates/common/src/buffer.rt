@@ -1,4 +1,5 @@
-// Bytes laid into a lent buffer, one run behind the other.
+// Bytes laid into a lent buffer, one run behind the other. A writer takes the buffer and an index in it: a struct that held both would hold what is lent,
+// and each contract would need a clause about that loan.
 ghost use Rattle.std.specs.Prelude.{◌+◌, ◌≤◌, length};
 ghost use Rattle.common.specs.Buffer.{Put};
 

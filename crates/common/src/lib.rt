@@ -6,9 +6,8 @@ pub mod limits;
 pub mod refusals;
 pub mod runs;
 
-ghost use Rattle.std.specs.Prelude.{◌≡◌, ◌-◌, ◌<◌, ◌≤◌, min, max, get_or};
+ghost use Rattle.std.specs.Prelude.{◌≡◌, ◌≤◌, get_or};
 ghost use Rattle.common.specs.Bits.{bit};
-ghost use Rattle.common.specs.Lists.{within};
 ghost use Rattle.common.specs.Numbers.{address_bytes};
 
 // The byte at an index, 0 past the end.

@@ -1,4 +1,5 @@
-// Runs of neighbouring bytes: filled, copied, ANDed. One pass over the run, and nothing else is touched.
+// Runs of neighbouring bytes: filled, copied, ANDed. One pass over the run, and nothing else is touched. Each says what becomes of the whole slice, which
+// a part of it, `&mut bytes[from..to]`, could not.
 ghost use Rattle.std.specs.Prelude.{◌≡◌, ◌+◌, ◌-◌, ◌≤◌, get_or, length};
 ghost use Rattle.std.specs.Int.Bits.{bit_and};
 ghost use Rattle.common.specs.Lists.{mapi, on_run};
@@ -11,12 +12,12 @@ pub fn fill_run(bytes: &mut [u8], from: usize, to: usize, value: u8)
     bytes[from..to].fill(value);
 }
 
-// They become those of another slice from `at` on.
+// The bytes from `from` up to `to` become those of another slice from `at` on.
 pub fn copy_run(bytes: &mut [u8], from: usize, to: usize, source: &[u8], at: usize)
     requires { (from ≤ to) × (to ≤ length bytes.old) × (at + (to - from) ≤ length source.now) }
     ensures { bytes.new ≡ mapi (on_run from to (λ k x. get_or source.now (at + (k - from)) 0)) bytes.old }
 {
-    // nothing, as where a read does not wrap, is not worth the call of a block move
+    // an empty run, as where a read does not wrap, is not worth the call of a block move
     if from == to {
         return;
     }
@@ -24,7 +25,7 @@ pub fn copy_run(bytes: &mut [u8], from: usize, to: usize, source: &[u8], at: usi
     bytes[from..to].copy_from_slice(&source[at..end]);
 }
 
-// Each is ANDed with that of another slice from `at` on.
+// Each byte from `from` up to `to` is ANDed with that of another slice from `at` on. By index: behind a zip over `iter_mut` a proof knows no byte.
 pub fn and_run(bytes: &mut [u8], from: usize, to: usize, source: &[u8], at: usize)
     requires { (from ≤ to) × (to ≤ length bytes.old) × (at + (to - from) ≤ length source.now) }
     ensures { bytes.new ≡ mapi (on_run from to (λ k x. bit_and x (get_or source.now (at + (k - from)) 0))) bytes.old }

@@ -6,6 +6,7 @@ ghost use Rattle.effect.specs.Effect.{span_of, changed, Supplied};
 ghost use Rattle.effect.specs.Cut.{mixed, cut};
 
 use crate::{Effect, is_touched, span_of, struck_byte};
+use common::limits::ERASED;
 use std::slice::Iter;
 
 // Runs of neighbours in one pass, and a page that goes round address by address.
@@ -16,12 +17,18 @@ pub fn change(array: &mut [u8], e: Effect, input: &[u8])
     match e {
         Effect::Keep => {}
         Effect::Fill { start, count } => {
-            let lo = start as usize;
-            common::runs::fill_run(array, lo, lo + count as usize, 0xff);
+            let start = start as usize;
+            common::runs::fill_run(array, start, start + count as usize, ERASED);
         }
         Effect::Program { start, count, from } => {
-            let lo = start as usize;
-            common::runs::and_run(array, lo, lo + count as usize, input, from as usize);
+            let start = start as usize;
+            common::runs::and_run(
+                array,
+                start,
+                start + count as usize,
+                input,
+                usize::from(from),
+            );
         }
         Effect::Round { .. } => {
             for k in span_of(e) {

@@ -7,6 +7,7 @@ ghost use Rattle.std.specs.Prelude.{◌≡◌, ◌<◌};
 ghost use Rattle.common.specs.Lists.{within};
 ghost use Rattle.effect.specs.Effect.{page_effect, span_of, turn, last_for, touches, struck, mask_length};
 
+use common::limits::ERASED;
 use std::ops::Range;
 
 #[derive(Clone, Copy)]
@@ -51,7 +52,7 @@ fn span_of(e: Effect) -> Range<u32>
     }
 }
 
-// How many bytes on from the address, round the page.
+// How many bytes on from the address, round the page. By `k % 256`, so that the sum fits.
 fn turn_of(address: u32, k: u32) -> u32
     ensures { (result ≡ turn address k) × (result < 256) }
 {
@@ -95,9 +96,9 @@ fn struck_byte(e: Effect, input: &[u8], k: u32, old: u8) -> u8
 {
     match e {
         Effect::Keep => old,
-        Effect::Fill { .. } => 0xff,
+        Effect::Fill { .. } => ERASED,
         Effect::Program { start, from, .. } => {
-            old & common::byte_at(input, from as usize + k.saturating_sub(start) as usize)
+            old & common::byte_at(input, usize::from(from) + k.saturating_sub(start) as usize)
         }
         Effect::Round { address, count } => {
             old & common::byte_at(input, 4 + last_for(address, count, k) as usize)

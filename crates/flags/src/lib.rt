@@ -6,8 +6,8 @@ ghost use Rattle.std.specs.Prelude.{◌≡◌, ◌+◌, ◌≤◌, length};
 ghost use Rattle.sectors.specs.Images.{sector_part};
 ghost use Rattle.flags.specs.Answers.{name_told, NameMarks, BookMoves, returned_of, BookReturns};
 
+use book::Book;
 use book::sizes::USED;
-use book::telling::Book;
 use common::buffer::put;
 use common::limits::{ERASED, SECTOR};
 use common::refusals::Refusal;
@@ -92,12 +92,12 @@ pub fn move_there(
         Ok(names) => names,
         Err(refusal) => return state::refuse_plan(refusal.number(), s),
     };
-    let book = Book {
+    let opened = Book {
         array,
         sector: book,
     };
     let mut wanted = image::blank();
-    if let Err(refusal) = moving::lay_move(&book, &names, sector_at(array, sector), &mut wanted) {
+    if let Err(refusal) = moving::lay_move(&opened, &names, sector_at(array, sector), &mut wanted) {
         return state::refuse_plan(refusal.number(), s);
     }
     promises::plan_update(s, wp, array, sector, &wanted, buffer)

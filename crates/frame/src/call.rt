@@ -11,6 +11,7 @@ use crate::accepted::{run_accepted, run_accepted_cut};
 use crate::cut::takes_mask;
 use common::limits::LONGEST_FRAME;
 use common::refusals::Refusal;
+use state::soundness::check_chip;
 use state::{Answer, State};
 
 #[tactic(auto, unfolding(crate::specs::Call::frame_number))]
@@ -24,12 +25,7 @@ fn check_frame(
 ) -> Result<(), Refusal>
     ensures { number_in result ≡ frame_number wp input.now (device s array.now) (on_line output.now driven.now) }
 {
-    if !state::soundness::is_sound(s) {
-        return Err(Refusal::StateNotSound);
-    }
-    if array.len() != chip::chip_of(s.chip).size as usize {
-        return Err(Refusal::WrongArray);
-    }
+    check_chip(s, array.len())?;
     if input.is_empty() || LONGEST_FRAME < input.len() {
         return Err(Refusal::WrongFrame);
     }

@@ -32,8 +32,8 @@ pub fn takes_mask(c: Command, mask: &[u8]) -> bool
     mask.len() == effect::mask_length(effect_of(c))
 }
 
-// The registers that power-up finds. No struct of state and command: `Fits` goes by the command's cases, so its field would need a proof that it has one
-// proof, and the clauses would say `taken.state` and `taken.command` for s and c.
+// The registers that power-up finds. No struct of state and command: a fact by cases, as `Fits`, is no plain field, and the clauses would say
+// `taken.state` and `taken.command` for s and c.
 pub fn state_cut(s: State, c: Command, mask: &[u8]) -> State
     requires { Fits s c }
     ensures { result ≡ state_cut s c mask.now }

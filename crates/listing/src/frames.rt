@@ -10,7 +10,8 @@ ghost use Rattle.listing.specs.Listing.{cut_lines};
 use script::reader::{Found, front_at};
 use text::put_shown_line;
 
-// The script has been run, so none of its records is refused, and what its frames showed lies one after another, in both slices.
+// The script has been run, so none of its records is refused, and what its frames showed lies one after another, in both slices:
+// they come as C lends them, so they are no struct.
 pub(crate) fn put_frame_lines(script: &[u8], output: &[u8], driven: &[u8], text: &mut [u8]) -> usize
     requires script_value { (survey_of script.now).number ≡ 0 }
     requires long { Long (survey_of script.now).output (on_line output.now driven.now) }
@@ -20,6 +21,7 @@ pub(crate) fn put_frame_lines(script: &[u8], output: &[u8], driven: &[u8], text:
     let mut at: usize = 0;
     let mut shown: usize = 0;
     let mut next_line: usize = 0;
+    // No `for`: an iterator over `front_at` would hand out refusals too, and here none can come.
     while let Some(found) = front_at(script, at).unwrap() {
         match found {
             Found::Frame { length, next, .. } => {

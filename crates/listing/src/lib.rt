@@ -8,7 +8,7 @@ ghost use Rattle.std.specs.Prelude.{◌≡◌, length};
 ghost use Rattle.common.specs.Buffer.{Put};
 ghost use Rattle.listing.specs.Listing.{listing};
 
-use common::limits::LONGEST_SCRIPT;
+use common::limits::{ERASED, LONGEST_SCRIPT};
 
 // A frame of n bytes takes 4 + n bytes of the script and 2 n + 3 characters; the last line has 5.
 pub const LONGEST_LISTING: usize = 2 * LONGEST_SCRIPT + 5;
@@ -20,7 +20,7 @@ pub fn listing(script: &[u8], text: &mut [u8; LONGEST_LISTING]) -> usize
 {
     let survey = script::survey::survey_of(script);
     // a new F25L05PA's bytes, and room for what the frames show, which is no longer than the script
-    let mut array = [0xff; 65536];
+    let mut array = [ERASED; 65536];
     let mut output = [0; LONGEST_SCRIPT];
     let mut driven = [0; LONGEST_SCRIPT];
     let ran = run::run_script(

@@ -5,8 +5,8 @@ ghost use Rattle.book.specs.Book.{is_read};
 ghost use Rattle.sectors.specs.Moves.{is_past};
 ghost use Rattle.namechecks.specs.Refusals.{name_refusals, list_refusals};
 
+use book::Book;
 use book::refusal::{check_book, is_sector};
-use book::telling::Book;
 use common::refusals::Refusal;
 use namelist::list::{MOST_NAMES, NameList};
 use state::State;
@@ -23,11 +23,11 @@ pub fn check_name(s: State, size: usize, sector: usize, name: &[u8]) -> Result<(
 }
 
 // Whether a scene past so many names is read.
-fn is_past(book: &Book, names: usize) -> bool
-    requires { names ≤ 4096 }
-    ensures { result ≡ is_past (is_read book.now.array.now book.now.sector) names }
+fn is_past(book: &Book, count: usize) -> bool
+    requires { count ≤ 4096 }
+    ensures { result ≡ is_past (is_read book.now.array.now book.now.sector) count }
 {
-    (names..MOST_NAMES).any(|scene| book.scene_read(scene as u32))
+    (count..MOST_NAMES).any(|scene| book.scene_read(scene as u32))
 }
 
 // Of a call about a book, a sector of names and a list: 1, 2, 15, 6, 18, 19; without any, the list's names. A read scene past the list matters to a
@@ -43,21 +43,13 @@ pub fn check_list<'a>(
     ensures number { number_in result ≡ first_of (list_refusals s array.now book sector list.now moving) }
     ensures read { IfOk result (λ names. names.bytes.now ≡ list.now) }
 {
-    check_book(s, array.len(), book, !is_sector(s, sector))?;
+    let opened = Book::open(s, array, book, !is_sector(s, sector))?;
     if book == sector {
         return Err(Refusal::WrongRegion);
     }
-    let Some(names) = NameList::read(list) else {
+    let names = NameList::read(list).ok_or(Refusal::WrongNames)?;
+    if moving && is_past(&opened, names.count()) {
         return Err(Refusal::WrongNames);
-    };
-    if moving {
-        let book = Book {
-            array,
-            sector: book,
-        };
-        if is_past(&book, names.count()) {
-            return Err(Refusal::WrongNames);
-        }
     }
     if names.has_twice() {
         return Err(Refusal::NameTwice);

@@ -19,6 +19,7 @@ impl<'a> NameList<'a> {
     pub fn read(list: &'a [u8]) -> Option<NameList<'a>>
         ensures { MatchOption result (is_bad (listed list.now) ≡ true) (λ names. names.bytes.now ≡ list.now) }
     {
+        // No `for`: the iterator below is of a good list, and here it isn't known yet whether this is one.
         let mut left = list;
         let mut names: usize = 0;
         while let Some((length, rest)) = left.split_first() {

@@ -10,7 +10,7 @@ use crate::list::{MOST_NAMES, NameList};
 fn print_of(name: &[u8]) -> u32
     ensures { result ≡ print_of name.now }
 {
-    // No `fold`: its closure would not know that the print so far is small.
+    // No `fold`: its closure is proved for every print so far, and the product of a large one doesn't fit; here the loop's invariant bounds it.
     let mut print: u32 = 0;
     for byte in name {
         // kept below 2^24, so that the next product fits

@@ -11,7 +11,7 @@ fn is_name_byte(byte: u8) -> bool
 }
 
 // Whether each byte can stand in a name: two a turn, since in a sick sector this may be asked at every third place. With `all`, which is one a turn,
-// the dearest sector takes more instructions than the 400,000 that it may.
+// the dearest sector takes more than the 400,000 instructions that a salvage may take.
 fn all_name(bytes: &[u8]) -> bool
     ensures { result ≡ all_name bytes.now }
 {

@@ -34,6 +34,7 @@ fn marked_or_erased(marked: bool, byte: u8) -> u8
 }
 
 // Lays a name's record into the buffer from `at` on, with its mark or with FF in its place; gives the index behind it.
+// `marked` chooses no step: it is what two of the bytes depend on, and `record_bytes` takes it too.
 pub fn put_record(name: &[u8], marked: bool, buffer: &mut [u8], at: usize) -> usize
     requires { (length name.now ≤ 32) × (at + (3 + length name.now) ≤ length buffer.old) }
     ensures { Put at (record_bytes marked name.now) buffer.old buffer.new result }

@@ -7,6 +7,7 @@ use super::record::{HEAD, record_at};
 pub fn find(bytes: &[u8], name: &[u8]) -> Result<usize, usize>
     ensures { Searched bytes.now name.now result }
 {
+    // No `for` over `records_of`: it gives names, and here the place is asked for.
     let mut at: usize = 0;
     while let Some(size) = record_at(bytes, at) {
         let end = at + size;

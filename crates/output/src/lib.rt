@@ -48,7 +48,8 @@ fn identity_byte(device: u8, odd: bool, i: usize) -> u8
     }
 }
 
-// Byte i of a command that does not read the array. The chip's data is fetched in the arms that use it.
+// Byte i of a command that does not read the array, which `emit` has sorted out; a type for such commands would be made there and taken apart here.
+// The chip's data is fetched in the arms that use it.
 #[tactic(auto, unfolding(crate::specs::Output::shown_at))]
 fn shown_at(s: State, c: Command, i: usize) -> Option<u8>
     requires { NoRead c }
@@ -68,7 +69,7 @@ fn shown_at(s: State, c: Command, i: usize) -> Option<u8>
         }
         Command::ReadSignature => {
             let chip = chip::chip_of(s.chip);
-            if i < chip.preamble as usize {
+            if i < usize::from(chip.preamble) {
                 None
             } else {
                 Some(chip.signature)
@@ -97,21 +98,23 @@ fn changing(c: Command, count: usize) -> usize
     }
 }
 
-// One by one, and from where they no longer change in a run: most frames are silent, and some are long.
+// One by one, and from where they no longer change in a run: most frames are silent, and some are long. By index: behind two `iter_mut` in a zip a proof knows no byte.
 fn show_each(s: State, c: Command, output: &mut [u8], driven: &mut [u8])
     requires { NoRead c × (length driven.old ≡ length output.old) }
     ensures { (m : ℕ → ℕ) → (output.new ≡ tab (length output.old) (λ i. byte_of (shown_at s c m i))) × (driven.new ≡ tab (length output.old) (λ i. driven_of (shown_at s c m i))) }
 {
     let count = output.len();
     let to = changing(c, count);
-    for i in 0..to {
+    for i in 0..count {
         let shown = shown_at(s, c, i);
+        if i == to {
+            common::runs::fill_run(output, to, count, byte_of(shown));
+            common::runs::fill_run(driven, to, count, driven_of(shown));
+            return;
+        }
         output[i] = byte_of(shown);
         driven[i] = driven_of(shown);
     }
-    let rest = shown_at(s, c, to);
-    common::runs::fill_run(output, to, count, byte_of(rest));
-    common::runs::fill_run(driven, to, count, driven_of(rest));
 }
 
 // The array from an address up, after `at` silent bytes: to the top in one run, and on from address 0 in another.
@@ -122,7 +125,7 @@ fn show_array(from: u32, at: u8, array: &[u8], output: &mut [u8])
     let size = array.len();
     let count = output.len();
     let start = from as usize;
-    let head = (at as usize).min(count);
+    let head = usize::from(at).min(count);
     common::runs::fill_run(output, 0, head, 0xff);
     let top = head + (count - head).min(size - start);
     common::runs::copy_run(output, head, top, array, start);
@@ -134,13 +137,13 @@ fn drive_since(at: u8, driven: &mut [u8])
     ensures { (bytes : ℕ → ℕ) → driven.new ≡ tab (length driven.old) (λ i. driven_of (since at i (bytes i))) }
 {
     let count = driven.len();
-    let head = (at as usize).min(count);
+    let head = usize::from(at).min(count);
     common::runs::fill_run(driven, 0, head, 0);
     common::runs::fill_run(driven, head, count, 1);
 }
 
-// What a command shows, in both slices, which C lends apart. No struct of state and command: `Fits` goes by the command's cases, so its field would need
-// a proof that it has one proof, and the clauses would say `taken.state` and `taken.command` for s and c.
+// What a command shows, in both slices, which C lends apart. No struct of state and command: a fact by cases, as `Fits`, is no plain field, and the clauses
+// would say `taken.state` and `taken.command` for s and c.
 pub fn emit(s: State, c: Command, array: &[u8], output: &mut [u8], driven: &mut [u8])
     requires { Fits s c × (length array.now ≡ (data_of s).size) × (length output.old ≤ longest_frame) × (length driven.old ≡ length output.old) }
     ensures output_after { output.new ≡ tab (length output.old) (λ i. byte_of (shown_at s c (memory array.now) i)) }

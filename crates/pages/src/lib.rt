@@ -20,7 +20,7 @@ fn first_changing(update: &Update, from: usize, to: usize) -> usize
     ensures { First (changes update.now.array.now update.now.start update.now.wanted.now) from to result }
 {
     (from..to)
-        .find(|address| update.array[*address] != update.wanted[*address - update.start])
+        .find(|address| update.differs(*address))
         .unwrap_or(to)
 }
 
@@ -32,7 +32,7 @@ fn behind_last(update: &Update, from: usize, to: usize) -> usize
     ensures { Behind (changes update.now.array.now update.now.start update.now.wanted.now) from to result }
 {
     (from..to)
-        .rfind(|address| update.array[*address] != update.wanted[*address - update.start])
+        .rfind(|address| update.differs(*address))
         .map_or(from, |last| last + 1)
 }
 

@@ -1,3 +1,4 @@
 pub mod Plan
 pub mod Refusals
 pub mod Update
+pub mod Whole

@@ -5,12 +5,11 @@ mod status; // steps 1 and 4
 
 ghost use Rattle.std.specs.Prelude.{◌≡◌, ◌||◌, [], ◌∷◌, ◌+◌, ◌≤◌, ltb, length, IfOk};
 ghost use Rattle.common.specs.Refusals.{buffer_too_short, first_of, number_in};
-ghost use Rattle.state.specs.State.{data_of};
 ghost use Rattle.script.specs.Record.{encode};
 ghost use Rattle.script.specs.Measure.{measure_of};
 ghost use Rattle.common.specs.Buffer.{Put};
-ghost use Rattle.plan.specs.Plan.{step_one_needed, program_step, plan_records};
-ghost use Rattle.plan.specs.Refusals.{region_refusals, plan_refusal, bytes_needed};
+ghost use Rattle.plan.specs.Plan.{step_one_needed, plan_records};
+ghost use Rattle.plan.specs.Refusals.{is_active, region_refusals, plan_refusal};
 ghost use Rattle.common.specs.Limits.{longest_wanted};
 ghost use Rattle.plan.specs.Update.{Scripted, PlanUpdated};
 
@@ -19,6 +18,7 @@ use common::refusals::Refusal;
 use pages::Pages;
 use region::{Program, Update};
 use script::measure::Measure;
+use state::soundness::check_chip;
 use state::{Planned, State};
 use words::Words;
 
@@ -27,9 +27,17 @@ fn region_exceeds(size: usize, start: usize, n: usize) -> bool
     ensures { result ≡ (ltb longest_wanted n || ltb size (start + n)) }
 {
     match start.checked_add(n) {
-        Some(end) => (LONGEST_WANTED < n) | (size < end),
+        Some(end) => LONGEST_WANTED < n || size < end,
         None => true,
     }
+}
+
+// Not at rest: busy, in AAI or in power-down.
+#[tactic(auto, unfolding(crate::specs::Refusals::is_active))]
+fn is_active(s: State) -> bool
+    ensures { result ≡ is_active s }
+{
+    0 < s.left || s.aai || s.power_down
 }
 
 // Refusals 1, 2, 6, 7 and 8, in this order.
@@ -42,17 +50,11 @@ fn check_update<'a>(
     ensures number { number_in result ≡ first_of (region_refusals s array.now start wanted.now) }
     ensures update { IfOk result (λ u. (u.array.now ≡ array.now) × (u.start ≡ start) × (u.wanted.now ≡ wanted.now)) }
 {
-    let size = chip::chip_of(s.chip).size as usize;
-    if !state::soundness::is_sound(s) {
-        return Err(Refusal::StateNotSound);
-    }
-    if array.len() != size {
-        return Err(Refusal::WrongArray);
-    }
-    if region_exceeds(size, start, wanted.len()) {
+    check_chip(s, array.len())?;
+    if region_exceeds(array.len(), start, wanted.len()) {
         return Err(Refusal::WrongRegion);
     }
-    if (0 < s.left) | s.aai | s.power_down {
+    if is_active(s) {
         return Err(Refusal::NotAtRest);
     }
     let update = Update {
@@ -66,48 +68,54 @@ fn check_update<'a>(
     Ok(update)
 }
 
-// What the whole plan amounts to.
-fn measure_plan<P: Program>(s: State, needed: bool, update: &Update) -> Measure
-    requires needed_value { needed ≡ step_one_needed s update.now.array.now update.now.start update.now.wanted.now }
-    requires program { P.records update.now.array.now update.now.start update.now.wanted.now ≡ program_step (data_of s).word_plans update.now.array.now update.now.start update.now.wanted.now }
-    ensures { result ≡ measure_of (plan_records s update.now.array.now update.now.start update.now.wanted.now) }
-{
-    let time = chip::chip_of(s.chip).status_time;
-    status::with_status_steps(time, needed, P::measure(update))
-}
-
-// The whole script, from the front of the buffer on; gives its length.
-fn put_plan<P: Program>(s: State, needed: bool, update: &Update, buffer: &mut [u8]) -> usize
-    requires bp_bound { s.bp ≤ 7 }
-    requires needed_value { needed ≡ step_one_needed s update.now.array.now update.now.start update.now.wanted.now }
-    requires program { P.records update.now.array.now update.now.start update.now.wanted.now ≡ program_step (data_of s).word_plans update.now.array.now update.now.start update.now.wanted.now }
-    requires plan_in_bounds { length (encode (plan_records s update.now.array.now update.now.start update.now.wanted.now)) ≤ length buffer.old }
-    ensures { Put 0 (encode (plan_records s update.now.array.now update.now.start update.now.wanted.now)) buffer.old buffer.new result }
-{
-    let unprotected = status::put_status(needed, s, 0, buffer, 0);
-    let programmed = P::put(update, buffer, unprotected);
-    status::put_status(needed, s, s.bp, buffer, programmed)
-}
-
-// The script of an update that only the buffer's length can refuse any more, measured and written.
-fn write_plan<P: Program>(
-    s: State,
+// An update that only the buffer's length can refuse any more.
+#[derive(Clone, Copy)]
+struct Plan<'a> {
+    state: State,
+    update: Update<'a>,
+    // whether a byte that changes is protected, so that steps 1 and 4 are there
     needed: bool,
-    update: &Update,
-    buffer: &mut [u8],
-) -> Result<Measure, Refusal>
-    requires bp_bound { s.bp ≤ 7 }
-    requires needed_value { needed ≡ step_one_needed s update.now.array.now update.now.start update.now.wanted.now }
-    requires program { P.records update.now.array.now update.now.start update.now.wanted.now ≡ program_step (data_of s).word_plans update.now.array.now update.now.start update.now.wanted.now }
-    ensures { Scripted (first_of ((buffer_too_short, ltb (length buffer.old) (bytes_needed s update.now.array.now update.now.start update.now.wanted.now)) ∷ []))
-        (plan_records s update.now.array.now update.now.start update.now.wanted.now) buffer.old buffer.new result }
-{
-    let m = measure_plan::<P>(s, needed, update);
-    if buffer.len() < m.length as usize {
-        return Err(Refusal::BufferTooShort);
+    ghost bp_bound: { state.bp ≤ 7 },
+    ghost needed_is: { needed ≡ step_one_needed state update.array.now update.start update.wanted.now },
+}
+
+// In its methods P is the step between 1 and 4, by words or by pages, as the chip goes.
+impl Plan<'_> {
+    ghost use Rattle.plan.specs.Whole.{records_of, Programs};
+
+    // What the whole plan amounts to.
+    fn measure<P: Program>(&self) -> Measure
+        requires { Programs P.records self.now }
+        ensures { result ≡ measure_of (records_of self.now) }
+    {
+        let time = chip::chip_of(self.state.chip).status_time;
+        status::with_status_steps(time, self.needed, P::measure(&self.update))
     }
-    put_plan::<P>(s, needed, update, buffer);
-    Ok(m)
+
+    // The whole script, from the front of the buffer on; gives its length.
+    fn put<P: Program>(&self, buffer: &mut [u8]) -> usize
+        requires program { Programs P.records self.now }
+        requires plan_in_bounds { length (encode (records_of self.now)) ≤ length buffer.old }
+        ensures { Put 0 (encode (records_of self.now)) buffer.old buffer.new result }
+    {
+        let s = self.state;
+        let unprotected = status::put_status(self.needed, s, 0, buffer, 0);
+        let programmed = P::put(&self.update, buffer, unprotected);
+        status::put_status(self.needed, s, s.bp, buffer, programmed)
+    }
+
+    // The whole script, measured and written, if the buffer has room for it.
+    fn write<P: Program>(&self, buffer: &mut [u8]) -> Result<Measure, Refusal>
+        requires { Programs P.records self.now }
+        ensures { Scripted (first_of ((buffer_too_short, ltb (length buffer.old) (length (encode (records_of self.now)))) ∷ [])) (records_of self.now) buffer.old buffer.new result }
+    {
+        let m = self.measure::<P>();
+        if buffer.len() < m.length as usize {
+            return Err(Refusal::BufferTooShort);
+        }
+        self.put::<P>(buffer);
+        Ok(m)
+    }
 }
 
 // What the script amounts to, once it is written at the front of the buffer.
@@ -123,13 +131,18 @@ fn planned(
 {
     let update = check_update(s, array, start, wanted)?;
     let needed = status::step_one_needed(s, &update);
-    if needed & s.bpl & !wp {
+    if needed && s.bpl && !wp {
         return Err(Refusal::StatusLocked);
     }
+    let plan = Plan {
+        state: s,
+        update,
+        needed,
+    };
     if chip::chip_of(s.chip).word_plans {
-        write_plan::<Words>(s, needed, &update, buffer)
+        plan.write::<Words>(buffer)
     } else {
-        write_plan::<Pages>(s, needed, &update, buffer)
+        plan.write::<Pages>(buffer)
     }
 }
 

@@ -31,13 +31,15 @@ fn arming(s: State) -> u8
     }
 }
 
+#[tactic(auto, unfolding(crate::specs::Plan::status_byte))]
 fn status_byte(bp: u8, tb: bool, bpl: bool) -> u8
     requires { bp ≤ 7 }
     ensures { result ≡ status_byte bp tb bpl }
 {
-    bp * 4 + u8::from(tb) * 32 + u8::from(bpl) * 128
+    bp * 4 + common::bit_of(tb, 32) + common::bit_of(bpl, 128)
 }
 
+// The frames of step 1 or 4, with the protection bits `bp`. `needed` is no choice between two steps: it says whether this one is there at all.
 pub fn put_status(needed: bool, s: State, bp: u8, buffer: &mut [u8], at: usize) -> usize
     requires bp_bound { bp ≤ 7 }
     requires bp_in_bounds { at + length (encode (status_step needed s bp)) ≤ length buffer.old }
@@ -62,7 +64,7 @@ fn wait_bytes(time: u32) -> u32
     if 0 < time { 6 } else { 0 }
 }
 
-// With steps 1 and 4 around it: two frames each, of one and two bytes, and a wait.
+// With steps 1 and 4 around it, if they are there at all: two frames each, of one and two bytes, and a wait.
 pub fn with_status_steps(time: u32, needed: bool, m: Measure) -> Measure
     requires { (m.length ≤ longest_script) × (m.frames ≤ longest_script) × (m.microseconds ≤ longest_script) × (time ≤ 90000) }
     ensures { result ≡ with_status_steps time needed m }

@@ -1,11 +1,12 @@
-// The region of an update: what is wanted at each address, and which bytes change.
+// The region of an update: what is wanted at each address, and which bytes change; and `Program`, a plan's step that programs them.
 #![tactic(auto)]
 
 mod program;
 
-ghost use Rattle.std.specs.Prelude.{◌≡◌, ◌+◌, length};
+ghost use Rattle.std.specs.Prelude.{◌≡◌, ◌+◌, ◌≤◌, ◌<◌, length};
 ghost use Rattle.region.specs.Region.{Inside, wanted_at, changes, wants_rise};
 
+use common::limits::ERASED;
 pub use program::Program;
 
 // The bytes wanted from `start` on, and the array that they are to stand in.
@@ -32,14 +33,19 @@ impl Update<'_> {
         wanted_at(self.start, self.wanted, address)
     }
 
+    // Whether a byte of the region is not yet as wanted.
+    pub fn differs(&self, address: usize) -> bool
+        requires { (self.now.start ≤ address) × (address < self.now.start + length self.now.wanted.now) }
+        ensures { result ≡ changes self.now.array.now self.now.start self.now.wanted.now address }
+    {
+        self.array[address] != self.wanted[address - self.start]
+    }
+
     // Whether the byte at an address is one of the region and not yet as wanted.
     pub fn changes(&self, address: usize) -> bool
         ensures { result ≡ changes self.now.array.now self.now.start self.now.wanted.now address }
     {
-        if address < self.start {
-            return false;
-        }
-        address < self.end() && self.array[address] != self.wanted[address - self.start]
+        self.start <= address && address < self.end() && self.differs(address)
     }
 
     // Whether a 1 is wanted where the array has 0: only an erase could give it.
@@ -53,13 +59,12 @@ impl Update<'_> {
     }
 }
 
-// The byte wanted at an address: FF outside the region. No method of `Update`: it asks nothing of where the region lies.
+// The same of any region, wherever it lies: public as it was, and it asks nothing of an array.
 pub fn wanted_at(start: usize, wanted: &[u8], address: usize) -> u8
     ensures { result ≡ wanted_at start wanted.now address }
 {
     if address < start {
-        return 0xff;
+        return ERASED;
     }
-    let i = address - start;
-    if i < wanted.len() { wanted[i] } else { 0xff }
+    wanted.get(address - start).copied().unwrap_or(ERASED)
 }

@@ -15,7 +15,8 @@ pub trait Program {
     fn measure(update: &Update) -> Measure
         ensures { result ≡ measure_of (records update.now.array.now update.now.start update.now.wanted.now) };
 
-    // The whole of the step, from a place of the buffer on; gives the place behind it. The two are no struct: one that holds a `&mut` needs a clause on it in each function.
+    // Writes the whole step into the buffer from `at` on, and gives the place behind it.
+    // Buffer and place are no struct: one that holds a `&mut` needs a clause about that loan in each contract.
     fn put(update: &Update, buffer: &mut [u8], at: usize) -> usize
         requires { at + length (encode (records update.now.array.now update.now.start update.now.wanted.now)) ≤ length buffer.old }
         ensures { Put at (encode (records update.now.array.now update.now.start update.now.wanted.now)) buffer.old buffer.new result };

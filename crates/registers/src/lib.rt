@@ -9,7 +9,7 @@ use command::Command;
 use state::State;
 
 // "Every taken frame clears armed too, but WREN and EWSR, which set it."
-// No struct of state and command: `Fits` goes by the command's cases, and each clause would say `taken.state`, `taken.command`.
+// No struct of state and command: a fact by cases, as `Fits`, is no plain field, and the clauses would say `taken.state` and `taken.command` for s and c.
 #[tactic(auto, unfolding(crate::specs::Registers::state_after))]
 pub fn state_after(s: State, c: Command) -> State
     requires { Fits s c }

@@ -12,6 +12,7 @@ ghost use Rattle.run.specs.Script.{carries_offset, Checked, ScriptRun};
 use common::refusals::Refusal;
 use script::survey::{Counts, Refused, counts_of};
 use state::State;
+use state::soundness::check_chip;
 
 // What running a script answers: number 0 with the chip's state and the counts, or the refusal's number with the given state and, where it
 // carries one, the offset of the first bad record's mark. No Result: C reads this struct.
@@ -34,7 +35,7 @@ pub fn carries_offset(number: u32) -> bool
         || number == Refusal::CutShort.number()
 }
 
-// What the records count, or why the script is not run.
+// What the records count, or why the script is not run. The slices stay parameters, here and below, as C lends them (frame/src/call.rt).
 fn check_script(
     s: State,
     wp: bool,
@@ -45,12 +46,7 @@ fn check_script(
 ) -> Result<Counts, Refused>
     ensures { Checked wp script.now (device s array.now) (on_line output.now driven.now) (in_struct result) }
 {
-    if !state::soundness::is_sound(s) {
-        return Err(Refusal::StateNotSound.into());
-    }
-    if array.len() != chip::chip_of(s.chip).size as usize {
-        return Err(Refusal::WrongArray.into());
-    }
+    check_chip(s, array.len())?;
     let counts = counts_of(script)?;
     if output.len() != counts.output || driven.len() != counts.output {
         return Err(Refusal::WrongOutput.into());

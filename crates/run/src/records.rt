@@ -9,7 +9,7 @@ use state::State;
 use state::time::time_passed;
 
 // The script has been checked, so none of its records is refused, and each frame is accepted. What a frame shows is laid
-// behind what those before it showed, in both slices.
+// behind what those before it showed, in both slices: they come as C lends them, so they are no struct.
 pub(crate) fn run_records(
     s: State,
     wp: bool,
@@ -24,6 +24,7 @@ pub(crate) fn run_records(
     let mut state = s;
     let mut at: usize = 0;
     let mut laid: usize = 0;
+    // No `for`: an iterator over `front_at` would hand out refusals too, and here none can come.
     while let Some(found) = front_at(script, at).unwrap() {
         match found {
             Found::Frame {

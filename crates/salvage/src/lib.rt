@@ -20,6 +20,7 @@ pub struct Salvaged {
     pub kept: u32,
 }
 
+// As `state::refuse`, of a struct of its own that C reads.
 fn refuse(refusal: Refusal) -> Salvaged
     ensures { result ≡ refused_salvage (number_of refusal) }
 {

@@ -1,9 +1,10 @@
-// The walks over the used bytes of a sector, a piece a turn: one measures the list of dropped stretches, the other writes.
-ghost use Rattle.std.specs.Prelude.{◌≡◌, ◌+◌, ◌≤◌, ◌<◌, length, drop};
+// The used bytes of a sector, piece by piece: once to measure the list of dropped stretches, once to write.
+ghost use Rattle.std.specs.Prelude.{◌≡◌, ◌+◌, ◌-◌, ◌≤◌, ◌<◌, length, drop};
+ghost use Rattle.std.specs.Iterator.{at_most};
 ghost use Rattle.common.specs.Buffer.{Put};
 ghost use Rattle.names.specs.Records.{none, front};
 ghost use Rattle.salvage.specs.Pieces.{pieces_in, stretches_from, stretch_bytes, list_bytes};
-ghost use Rattle.salvage.specs.Walk.{StretchEnds, PiecesPut};
+ghost use Rattle.salvage.specs.Walk.{StretchEnds, NextPiece, PiecesPut};
 
 use common::buffer::put;
 use names::record::record_at;
@@ -16,12 +17,58 @@ fn stretch_end(bytes: &[u8], at: usize) -> usize
     requires { (at < length bytes.now) × (front (drop at bytes.now) ≡ none) }
     ensures { StretchEnds bytes.now at result }
 {
-    for end in at + 1..bytes.len() {
-        if record_at(bytes, end).is_some() {
-            return end;
+    (at + 1..bytes.len())
+        .find(|&end| record_at(bytes, end).is_some())
+        .unwrap_or(bytes.len())
+}
+
+// A record's bytes, or a stretch.
+#[derive(Clone, Copy)]
+enum Piece<'a> {
+    Kept(&'a [u8]),
+    Dropped { start: usize, count: usize },
+}
+
+// The pieces from a place on.
+#[derive(Clone, Copy)]
+struct Pieces<'a> {
+    bytes: &'a [u8],
+    at: usize,
+}
+
+fn pieces_of(bytes: &[u8]) -> Pieces<'_>
+    ensures { (result.bytes.now ≡ bytes.now) × (result.at ≡ 0) }
+{
+    Pieces { bytes, at: 0 }
+}
+
+impl<'a> Iterator for Pieces<'a> {
+    type Item = Piece<'a>;
+
+    ghost next_gives = { NextPiece };
+
+    ghost remaining = { λ pieces. at_most (length pieces.bytes.now - pieces.at) };
+
+    fn next(&mut self) -> Option<Piece<'a>> {
+        if self.bytes.len() <= self.at {
+            return None;
         }
+        let start = self.at;
+        let piece = match record_at(self.bytes, start) {
+            Some(size) => {
+                self.at += size;
+                Piece::Kept(&self.bytes[start..self.at])
+            }
+            None => {
+                self.at = stretch_end(self.bytes, start);
+                Piece::Dropped {
+                    start,
+                    count: self.at - start,
+                }
+            }
+        };
+        Some(piece)
     }
-    bytes.len()
 }
 
 // How long the list of dropped stretches will be.
@@ -29,16 +76,10 @@ pub fn list_length(bytes: &[u8]) -> usize
     requires { length bytes.now ≤ 4096 }
     ensures { result ≡ length (list_bytes (stretches_from 0 (pieces_in bytes.now))) }
 {
-    let mut at: usize = 0;
     let mut listed: usize = 0;
-    // No `for`: how far a turn goes is what stands there, a record or a stretch.
-    while at < bytes.len() {
-        match record_at(bytes, at) {
-            Some(size) => at += size,
-            None => {
-                at = stretch_end(bytes, at);
-                listed += ENTRY;
-            }
+    for piece in pieces_of(bytes) {
+        if let Piece::Dropped { .. } = piece {
+            listed += ENTRY;
         }
     }
     listed
@@ -59,23 +100,14 @@ pub fn put_pieces(bytes: &[u8], kept: &mut [u8], list: &mut [u8]) -> usize
     requires bytes_in_bounds { length (list_bytes (stretches_from 0 (pieces_in bytes.now))) ≤ length list.old }
     ensures { PiecesPut bytes.now kept.old kept.new list.old list.new result }
 {
-    let mut at: usize = 0;
-    let mut size: usize = 0;
+    let mut laid: usize = 0;
     let mut listed: usize = 0;
-    // as above
-    while at < bytes.len() {
-        match record_at(bytes, at) {
-            Some(record) => {
-                let end = at + record;
-                size = put(&bytes[at..end], kept, size);
-                at = end;
-            }
-            None => {
-                let end = stretch_end(bytes, at);
-                listed = put_stretch(at, end - at, list, listed);
-                at = end;
-            }
+    // Each buffer goes with how far it is filled, as `put` takes the two.
+    for piece in pieces_of(bytes) {
+        match piece {
+            Piece::Kept(record) => laid = put(record, kept, laid),
+            Piece::Dropped { start, count } => listed = put_stretch(start, count, list, listed),
         }
     }
-    size
+    laid
 }

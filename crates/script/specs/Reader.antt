@@ -1,5 +1,5 @@
 -- The reader of one record (01, "Scripts and plans"; refusals 11, 12, 13, 14).
-use Rattle.std.specs.Prelude.{◌≡◌, cond, List, [], ℕ, ◌+◌, ◌*◌, ltb, length, get_or, drop, Some, None, Ok, Err}
+use Rattle.std.specs.Prelude.{◌≡◌, cond, List, [], ℕ, ◌+◌, ◌*◌, ltb, length, get_or, drop, Some, None, Result, Ok, Err}
 use Rattle.script.specs.Record.{frame, wait, record_length}
 use Rattle.common.specs.Numbers.{two_bytes}
 use Rattle.common.specs.Limits.{longest_script}
@@ -7,6 +7,7 @@ use Rattle.common.specs.Refusals
 use Rattle.common.specs.declared.refusals.Refusal.{Refusal}
 use Rattle.common.specs.declared.refusals.Refusal.TheVariants.{ScriptTooLong, UnknownMark, WrongLength, CutShort}
 use Rattle.script.specs.Decode.{Fault, unknown_mark, wrong_length, cut_short, fault_number, Front, end, item, malformed, front}
+use Rattle.script.specs.declared.reader.Found.{Found}
 use Rattle.script.specs.declared.reader.Found.TheVariants.{Frame, Wait}
 use Rattle.script.specs.Answers.{Read, case_of, number_of, next_of, microseconds_of, start_of, length_of, part_of}
 
@@ -38,6 +39,11 @@ answer offset end = Ok None
 answer offset (item (frame bytes) rest) = Ok (Some (Frame (offset + 4) (length bytes) (offset + record_length (frame bytes))))
 answer offset (item (wait microseconds) rest) = Ok (Some (Wait microseconds (offset + record_length (wait microseconds))))
 answer offset (malformed fault) = Err (refusal_of fault)
+
+-- the answer of one who looks behind a mark, and so finds a record or a bad one, no end
+abbrev pub found_in : Result Found Refusal → Read
+found_in (Ok found) = Ok (Some found)
+found_in (Err refusal) = Err refusal
 
 -- "the frame or the wait of the record there with the next offset, or "end" where the offset is the script's length"
 unfoldable pub record_at : List ℕ → ℕ → Read

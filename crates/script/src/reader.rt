@@ -2,13 +2,14 @@
 ghost use Rattle.std.specs.Prelude.{◌≡◌, ◌+◌, ◌≤◌, length, take, drop};
 ghost use Rattle.common.specs.Limits.{longest_script};
 ghost use Rattle.script.specs.Decode.{front_frame, front_wait, front};
-ghost use Rattle.script.specs.Reader.{answer, frame_part, Answered};
+ghost use Rattle.script.specs.Reader.{answer, found_in, frame_part, Answered};
 
 use super::marks::{FRAME_MARK, SCRIPT_MARK, WAIT_MARK};
 use common::limits::{LONGEST_FRAME, LONGEST_SCRIPT};
 use common::refusals::Refusal;
 
-// A record: the frame's place in the script or the wait, with the next offset.
+// A record: the frame's place in the script or the wait, with the next offset. A frame is told by its start and length and not as
+// a slice: C gets the place, and `part_at` gives the part.
 #[derive(Clone, Copy, Debug, PartialEq, Eq)]
 pub enum Found {
     Frame {
@@ -23,9 +24,9 @@ pub enum Found {
 }
 
 // The record whose mark 5A 46 is at the offset, by the bytes behind the mark.
-fn frame_at(bytes: &[u8], offset: usize) -> Result<Option<Found>, Refusal>
+fn frame_at(bytes: &[u8], offset: usize) -> Result<Found, Refusal>
     requires { offset ≤ longest_script }
-    ensures { result ≡ answer offset (front_frame bytes.now) }
+    ensures { found_in result ≡ answer offset (front_frame bytes.now) }
 {
     let [high, low, rest @ ..] = bytes else {
         return Err(Refusal::CutShort);
@@ -38,29 +39,30 @@ fn frame_at(bytes: &[u8], offset: usize) -> Result<Option<Found>, Refusal>
         return Err(Refusal::CutShort);
     }
     let start = offset + 4;
-    Ok(Some(Found::Frame {
+    Ok(Found::Frame {
         start,
         length,
         next: start + length,
-    }))
+    })
 }
 
 // The record whose mark 5A 57 is at the offset, by the bytes behind the mark.
-fn wait_at(bytes: &[u8], offset: usize) -> Result<Option<Found>, Refusal>
+fn wait_at(bytes: &[u8], offset: usize) -> Result<Found, Refusal>
     requires { offset ≤ longest_script }
-    ensures { result ≡ answer offset (front_wait bytes.now) }
+    ensures { found_in result ≡ answer offset (front_wait bytes.now) }
 {
     let [a, b, c, d, ..] = bytes else {
         return Err(Refusal::CutShort);
     };
-    Ok(Some(Found::Wait {
+    Ok(Found::Wait {
         microseconds: u32::from_be_bytes([*a, *b, *c, *d]),
         next: offset + 6,
-    }))
+    })
 }
 
 // What stands at an offset of a script: a record by its mark, or none at the end. For loops over a script that have tested
-// its length and stay inside it; `record_at` makes both tests itself.
+// its length and stay inside it; `record_at` makes both tests itself. Script and offset are no struct: C hands both in, any offset
+// with any script, and a loop changes the offset alone.
 pub fn front_at(script: &[u8], offset: usize) -> Result<Option<Found>, Refusal>
     requires { (offset ≤ length script.now) × (length script.now ≤ longest_script) }
     ensures { result ≡ answer offset (front (drop offset script.now)) }
@@ -69,11 +71,9 @@ pub fn front_at(script: &[u8], offset: usize) -> Result<Option<Found>, Refusal>
         [] => Ok(None),
         // one byte is no mark yet, whatever it is
         [_] => Err(Refusal::CutShort),
-        [first, second, bytes @ ..] => match (*first, *second) {
-            (SCRIPT_MARK, FRAME_MARK) => frame_at(bytes, offset),
-            (SCRIPT_MARK, WAIT_MARK) => wait_at(bytes, offset),
-            _ => Err(Refusal::UnknownMark),
-        },
+        [SCRIPT_MARK, FRAME_MARK, bytes @ ..] => frame_at(bytes, offset).map(Some),
+        [SCRIPT_MARK, WAIT_MARK, bytes @ ..] => wait_at(bytes, offset).map(Some),
+        _ => Err(Refusal::UnknownMark),
     }
 }
 
@@ -100,7 +100,8 @@ pub fn part_at(script: &[u8], start: usize, count: usize) -> &[u8]
     &script[start..end]
 }
 
-// The frame of the record at an offset, as a part of the script; empty for a wait, the end and a refusal.
+// The frame of the record at an offset, as a part of the script. No Option: that the part is empty for a wait, the end and a
+// refusal is what its contract promises, so an empty part says "no frame".
 pub fn frame_part(script: &[u8], offset: usize) -> &[u8]
     ensures { result.now ≡ frame_part script.now offset }
 {

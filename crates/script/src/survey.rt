@@ -63,7 +63,8 @@ impl From<Result<Counts, Refused>> for Surveyed {
     }
 }
 
-// The whole script in one pass over its records. No iterator: the step comes out of the record, and a bad one is told with its offset.
+// The whole script in one pass over its records. No `for`: a bad record is told with its offset, so an iterator's items would
+// have to carry the place.
 pub fn counts_of(script: &[u8]) -> Result<Counts, Refused>
     ensures { result ≡ counts_of script.now }
 {
@@ -78,17 +79,15 @@ pub fn counts_of(script: &[u8]) -> Result<Counts, Refused>
     let mut at = 0;
     loop {
         match front_at(script, at) {
-            Ok(Some(found)) => match found {
-                Found::Frame { length, next, .. } => {
-                    counts.frames += 1;
-                    counts.output += length;
-                    at = next;
-                }
-                Found::Wait { microseconds, next } => {
-                    counts.microseconds += u64::from(microseconds);
-                    at = next;
-                }
-            },
+            Ok(Some(Found::Frame { length, next, .. })) => {
+                counts.frames += 1;
+                counts.output += length;
+                at = next;
+            }
+            Ok(Some(Found::Wait { microseconds, next })) => {
+                counts.microseconds += u64::from(microseconds);
+                at = next;
+            }
             Ok(None) => return Ok(counts),
             Err(refusal) => {
                 return Err(Refused {

@@ -23,7 +23,8 @@ pub fn is_missing(wanted: &[u8], there: &[u8]) -> bool
         .any(|(&byte, &here)| (byte != ERASED) & (byte != here))
 }
 
-// One record behind the `end` bytes that are there. `image` is no `&[u8; SECTOR]`: the narrower type would ask more than its length does.
+// One record behind the `end` bytes that are there. `image` is no `&[u8; SECTOR]`: callers hand in a part of the array, which is 4,096 bytes long, but
+// its type doesn't say so.
 pub fn append(image: &[u8], end: usize, name: &[u8], wanted: &mut [u8; SECTOR])
     requires { (wanted.old ≡ padded []) × (length image.now ≡ 4096) × (length name.now ≤ 32) × (end + (3 + length name.now) ≤ 4096) }
     ensures { wanted.new ≡ wanted_names image.now (take end image.now) (name.now ∷ []) }

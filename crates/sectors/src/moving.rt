@@ -11,6 +11,7 @@ use namelist::list::NameList;
 use names::record::{HEAD, put_record};
 
 // Lays the records of the read scenes, with their marks or with FF in their place; gives their length. None: they don't fit.
+// `marked` chooses no step here: it is handed on to each record.
 fn put_read(book: &Book, names: &NameList, marked: bool, wanted: &mut [u8; SECTOR]) -> Option<usize>
     ensures { ReadPut book.now.array.now book.now.sector names.now.bytes.now marked wanted.old wanted.new result }
 {
@@ -27,7 +28,7 @@ fn put_read(book: &Book, names: &NameList, marked: bool, wanted: &mut [u8; SECTO
     Some(end)
 }
 
-// The sector as a move wants it, unless the records don't fit.
+// The sector as a move wants it, unless the records don't fit. `image` is a slice, as for `append`.
 pub fn lay_move(
     book: &Book,
     names: &NameList,
@@ -37,9 +38,7 @@ pub fn lay_move(
     requires { (wanted.old ≡ padded []) × (length image.now ≡ 4096) }
     ensures { MoveLaid book.now.array.now book.now.sector names.now.bytes.now image.now wanted.new result }
 {
-    let Some(end) = put_read(book, names, false, wanted) else {
-        return Err(Refusal::RecordsTooLong);
-    };
+    let end = put_read(book, names, false, wanted).ok_or(Refusal::RecordsTooLong)?;
     if !is_missing(&wanted[..end], image) {
         put_read(book, names, true, wanted);
     }

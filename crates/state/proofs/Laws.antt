@@ -3,6 +3,7 @@ pub mod Protection
 pub mod Status
 pub mod Clauses
 pub mod Soundness
+pub mod Checked
 pub mod Power
 pub mod Time
 pub mod Passed

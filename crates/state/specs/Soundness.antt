@@ -1,5 +1,6 @@
 -- "A state is sound when" (01, "State"; 02, A4): clause by clause as a test, and in words.
-use Rattle.std.specs.Prelude.{◌≡◌, Bool, true, false, ◌&&◌, ◌||◌, not, List, [], ◌∷◌, ◌%◌, ◌≤◌, ◌<◌, leb, ltb, eqb}
+use Rattle.std.specs.Prelude.{◌≡◌, Bool, true, false, ◌&&◌, ◌||◌, not, List, [], ◌∷◌, ℕ, ◌%◌, ◌≤◌, ◌<◌, leb, ltb, eqb}
+use Rattle.common.specs.Refusals.{state_not_sound, wrong_array}
 use Rattle.state.specs.declared.State.{State}
 use Rattle.chip.specs.Chip.{is_known}
 use Rattle.state.specs.State.{data_of}
@@ -59,6 +60,13 @@ pending_clauses s =
 
 unfoldable pub is_sound : State → Bool
 is_sound s = all_of (register_clauses s) && all_of (aai_clauses s) && all_of (pending_clauses s)
+
+-- the first refusals of every call that is lent an array, by the array's length
+abbrev pub first_refusals : State → ℕ → List (ℕ × Bool)
+first_refusals s size =
+    (state_not_sound, not (is_sound s))  -- "state not sound, or chip number unknown"
+    ∷ (wrong_array, not (eqb size (data_of s).size))  -- "array length isn't the chip's size"
+    ∷ []
 
 -- ---- the same in words
 

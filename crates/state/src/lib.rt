@@ -71,6 +71,7 @@ pub fn grant(state: State) -> Answer
     Answer { number: 0, state }
 }
 
+// Refusals go in by number, here and below, as these structs carry them and as callers could always hand them in: a `Refusal` would take fewer.
 pub fn refuse(number: u32, state: State) -> Answer
     ensures { result ≡ refused number state }
 {

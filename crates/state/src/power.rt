@@ -56,7 +56,7 @@ pub fn powered_up(s: State) -> State
     }
 }
 
-// Power the chip up again.
+// Power the chip up again. `time::pass_time` asks the same of its state; what either does with it is two lines.
 #[tactic(auto, unfolding(crate::specs::Power::power_up, crate::specs::Power::state_refusal))]
 pub fn power_up(s: State) -> Answer
     ensures { result ≡ power_up s }

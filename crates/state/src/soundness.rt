@@ -1,8 +1,10 @@
 // "A state is sound when": the test that every call makes of the state it is given.
 ghost use Rattle.std.specs.Prelude.{◌≡◌};
-ghost use Rattle.state.specs.Soundness.{all_of, register_clauses, aai_clauses, pending_clauses, is_sound};
+ghost use Rattle.common.specs.Refusals.{number_in, first_of};
+ghost use Rattle.state.specs.Soundness.{all_of, register_clauses, aai_clauses, pending_clauses, is_sound, first_refusals};
 
 use crate::State;
+use common::refusals::Refusal;
 
 fn registers_sound(s: State) -> bool
     ensures { result ≡ all_of (register_clauses s) }
@@ -54,4 +56,17 @@ pub fn is_sound(s: State) -> bool
     ensures { result ≡ is_sound s }
 {
     registers_sound(s) && aai_sound(s) && pending_sound(s)
+}
+
+// What every call that is lent an array asks first, of the state and the array's length: 1 and 2.
+pub fn check_chip(s: State, size: usize) -> Result<(), Refusal>
+    ensures { number_in result ≡ first_of (first_refusals s size) }
+{
+    if !is_sound(s) {
+        return Err(Refusal::StateNotSound);
+    }
+    if size != chip::chip_of(s.chip).size as usize {
+        return Err(Refusal::WrongArray);
+    }
+    Ok(())
 }

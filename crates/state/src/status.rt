@@ -4,7 +4,7 @@ ghost use Rattle.state.specs.Status.{status_of, has, writable_bits, with_status_
 
 use crate::State;
 
-// bit_of puts a bit's value beside it, where u8::from would need a factor.
+// By bit_of, as a plan writes the register: the bit's value stands beside it.
 #[tactic(auto, unfolding(crate::specs::Status::status_of))]
 pub fn status_of(s: State) -> u8
     ensures { result ≡ status_of s }
@@ -18,6 +18,7 @@ pub fn status_of(s: State) -> u8
         + common::bit_of(s.bpl, 128)
 }
 
+// By division, as the definition `has` says it; the compiler makes a test of the bit.
 fn has_bit(byte: u8, value: u8) -> bool
     requires { 0 < value }
     ensures { result ≡ has byte value }

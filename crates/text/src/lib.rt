@@ -26,7 +26,8 @@ fn digit(value: u8) -> u8
 }
 
 // Something that a line can spell out.
-// No `Display`, and no struct of text and place: whatever holds the lent text needs a clause about that loan in each contract.
+// No `Display`, and no struct of text and place: a value that holds a `&mut` needs a clause about that loan in the contract of each
+// function that takes it.
 trait Spelled {
     // its characters
     ghost characters: { Self → List ℕ };
@@ -63,7 +64,7 @@ fn put_decimal(number: u32, text: &mut [u8], at: usize) -> usize
 }
 
 // Such a number: behind a space.
-// No type of its own: `put_decimals_line` takes every slice of `u32` with such numbers alone.
+// It is a plain `u32` and no type of its own: callers hand `put_decimals_line` a slice of `u32` whose numbers are all below 100,000.
 impl Spelled for u32 {
     ghost characters = { spaced };
 
@@ -102,7 +103,7 @@ fn put_shown_pair(byte: u8, driven: u8, text: &mut [u8], at: usize) -> usize
 }
 
 // Bytes as the line showed them, and for each whether it was driven.
-// No slice of pairs: what a run fills are two slices, as C lends them.
+// No slice of pairs: what a run fills are two slices, as C lends them. `Drop`, since `put` lets go of it.
 #[derive(Drop)]
 struct Shown<'a> {
     bytes: &'a [u8],

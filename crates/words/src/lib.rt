@@ -16,10 +16,11 @@ fn word_changes(update: &Update, address: usize) -> bool
     requires { address < length update.now.array.now }
     ensures { result ≡ word_changes (changes update.now.array.now update.now.start update.now.wanted.now) address }
 {
-    update.changes(address) | update.changes(address + 1)
+    update.changes(address) || update.changes(address + 1)
 }
 
 // The first word of a run: 06, AD with the address and the word, wait 7.
+// That an address has three bytes is a clause here and no type: it is counted on from the region's place, and would be wrapped anew for each word.
 fn put_first(update: &Update, address: usize, buffer: &mut [u8], at: usize) -> usize
     requires address_bound { address < 16777216 }
     requires address_in_bounds { at + length (encode (word_records (wanted_at update.now.start update.now.wanted.now) false true address)) ≤ length buffer.old }
@@ -49,7 +50,8 @@ fn put_further(update: &Update, address: usize, buffer: &mut [u8], at: usize) ->
     script::writer::put_wait(7, buffer, sent)
 }
 
-// What a word adds to the script, by whether a run goes on and whether the word changes.
+// What a word adds to the script. The two bools say what stands there, a run that goes on and a word that changes; behind
+// the last word none does.
 fn put_word(
     update: &Update,
     running: bool,
@@ -83,7 +85,7 @@ impl Program for Words {
         for word in update.start / 2..update.end().div_ceil(2) {
             let changes = word_changes(update, word * 2);
             words += u32::from(changes);
-            runs += u32::from(changes & !running);
+            runs += u32::from(changes && !running);
             running = changes;
         }
         Measure {

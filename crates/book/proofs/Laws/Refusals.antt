@@ -8,8 +8,7 @@ use native.Mathlib.Omega.{arith}
 use lib.Dec.{eqb, ltb}
 use lib.ListN.{length}
 use borrow.Author.Tests.{eqb-true, eq-eqb, ltb-true, lt-ltb, not-false}
-use Rattle.common.specs.declared.refusals.Refusal.{Refusal}
-use Rattle.common.specs.Refusals.{number_of, first_of, Exactly}
+use Rattle.common.specs.Refusals.{first_of, Exactly}
 use Rattle.common.proofs.Laws.Booleans.{and_l, and_r, and_i, or_none_l, or_none_r, or_none_i}
 use Rattle.common.proofs.Laws.Refusals.{clear, first_of_clear}
 use Rattle.chip.proofs.Laws.Chip.{regular}
@@ -18,8 +17,6 @@ use Rattle.state.specs.State.{data_of}
 use Rattle.state.specs.Soundness.{is_sound}
 use Rattle.book.specs.Refusals.{has_over, is_sector, book_refusals, book_refusal, Opened}
 use Rattle.book.proofs.Laws.Listed.{over_none, over_one}
-
--- ---- a refusal has a number other than that of an accepted call
 
 -- ---- of each call
 
@@ -52,6 +49,15 @@ sector_fits s start e =
     let h = (sector_exactly (data_of s).size start).when e in omega (arith, h.0, h.1, (regular s.chip).whole_blocks)
 
 -- ---- none of them holds
+
+-- whatever else a call asks of its book, the used bytes lie in the array
+pub used_inside : (s : State) (array : List ℕ) (sector : ℕ) (wrong : Bool) → 0 ≡ first_of (book_refusals s (length array) sector wrong)
+    → sector + 512 ≤ length array
+used_inside s array sector wrong told =
+    let none = clear (book_refusals s (length array) sector wrong) refl (sym told) in
+    let sized : length array ≡ (data_of s).size = eqb-true (length array) (data_of s).size (not-false (eqb (length array) (data_of s).size) none.1.0) in
+    let here = not-false (is_sector (data_of s).size sector) (or_none_r wrong (not (is_sector (data_of s).size sector)) none.1.1.0) in
+    omega (arith, sized, sector_fits s sector here)
 
 module _ (s : State) (array : List ℕ) (sector : ℕ) (scenes : List ℕ) where
   pub opened_exactly : Exactly (book_refusal s array sector scenes ≡ 0) (Opened s array sector scenes)

@@ -12,7 +12,7 @@ use native.Mathlib.Omega.{arith}
 use Rattle.book.specs.Refusals.{book_refusals, book_refusal, Opened}
 use Rattle.common.proofs.Laws.Flags.{flag_is}
 use Rattle.book.proofs.Laws.Listed.{none_over}
-use Rattle.book.proofs.Laws.Refusals.{refusal_of_one, opened_exactly, book_inside}
+use Rattle.book.proofs.Laws.Refusals.{refusal_of_one, opened_exactly}
 use Rattle.book.proofs.Laws.Answers.{is_read_refused, is_read_told_lem}
 use Rattle.book.proofs.is_read.Goals as goal
 
@@ -25,14 +25,14 @@ module _ (s : State) (array : List ℕ) (sector scene : ℕ) (none : 0 ≡ first
 
 pub returns-in-Err : goal.returns-in-Err
 returns-in-Err c =
-    c.tell.ensures ∙ rw c.number.ensures (sym (is_read_refused _ _ _ _ _ (number_some c.in-Err.refusal) (refusal_of_one _ _ _ _ ∙ sym c.in-Err.ensures)))
-
-pub invariant_of-book : goal.invariant_of-book
-invariant_of-book c = record { inside = book_inside _ _ _ _ (open_at _ _ _ _ c.in_default.ensures) }
+    c.tell-in-Err.ensures
+    ∙ rw c.number.ensures (sym (is_read_refused _ _ _ _ _ (number_some c.in-Err.refusal) (refusal_of_one _ _ _ _ ∙ sym c.in-Err.ensures.number)))
 
 pub scene_read-requires : goal.scene_read-requires
-scene_read-requires c = none_over _ (open_at _ _ _ _ c.in_default.ensures).scenes_kept 0 (omega arith)
+scene_read-requires c = none_over _ (open_at _ _ _ _ c.in-Ok.ensures.number).scenes_kept 0 (omega arith)
 
-pub returns : goal.returns
-returns c =
-    c.tell-2.ensures ∙ rw (c.from.ensures, c.scene_read.ensures, flag_is _) (sym (is_read_told_lem _ _ _ _ (clear _ _ _ _ c.in_default.ensures)))
+pub returns-in-Ok : goal.returns-in-Ok
+returns-in-Ok c =
+    c.tell.ensures
+    ∙ rw (c.from.ensures, c.scene_read.ensures, c.in-Ok.ensures.opened.0, c.in-Ok.ensures.opened.1, flag_is _)
+    (sym (is_read_told_lem _ _ _ _ (clear _ _ _ _ c.in-Ok.ensures.number)))

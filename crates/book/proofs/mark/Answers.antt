@@ -9,7 +9,7 @@ use Rattle.common.specs.Refusals.{first_of}
 use Rattle.state.specs.declared.State.{State}
 use Rattle.book.specs.Book.{marked}
 use Rattle.book.specs.Refusals.{has_over, book_refusals, book_refusal, Opened}
-use Rattle.book.proofs.Laws.Refusals.{refusal_of, opened_exactly, book_inside}
+use Rattle.book.proofs.Laws.Refusals.{refusal_of, opened_exactly}
 use Rattle.book.proofs.Laws.Answers.{marks_refused, marks_planned}
 use Rattle.book.proofs.mark.Goals as goal
 
@@ -25,15 +25,12 @@ module _ (s : State) (array : List ℕ) (sector : ℕ) (scenes : List ℕ) {over
 pub returns-in-Err : goal.returns-in-Err
 returns-in-Err c =
     rw (c.refuse_plan.ensures, c.number.ensures)
-    (marks_refused _ _ _ _ _ _ _ (number_some c.in-Err.refusal) (number_is _ _ _ _ c.has_over.ensures c.in-Err.ensures))
-
-pub invariant_of-book : goal.invariant_of-book
-invariant_of-book c = record { inside = book_inside _ _ _ _ (open_at _ _ _ c.args.scenes.now c.has_over.ensures c.in_default.ensures refl) }
+    (marks_refused _ _ _ _ _ _ _ (number_some c.in-Err.refusal) (number_is _ _ _ _ c.has_over.ensures c.in-Err.ensures.number))
 
 pub mark_scenes-requires : goal.mark_scenes-requires
-mark_scenes-requires c = (open_at _ _ _ _ c.has_over.ensures c.in_default.ensures refl).scenes_kept
+mark_scenes-requires c = (open_at _ _ _ _ c.has_over.ensures c.in-Ok.ensures.number refl).scenes_kept
 
 pub returns : goal.returns
 returns c =
-    marks_planned _ _ _ _ _ _ _ _ (number_is _ _ _ _ c.has_over.ensures c.in_default.ensures)
-    (rw (c.mark_scenes.ensures ∙ ap (marked _) c.used_bytes-used.ensures) at c.plan_update.ensures)
+    marks_planned _ _ _ _ _ _ _ _ (number_is _ _ _ _ c.has_over.ensures c.in-Ok.ensures.number)
+    (rw (c.mark_scenes.ensures ∙ ap (marked _) c.used_bytes-used.ensures, c.in-Ok.ensures.opened.0, c.in-Ok.ensures.opened.1) at c.plan_update.ensures)

@@ -27,8 +27,8 @@ returns-in-Err c =
     rw (c.refuse_plan.ensures, c.number.ensures)
     (moves_refused _ _ _ _ _ _ _ _ (number_some c.in-Err.refusal) (move_own _ _ _ _ _ _ (number_some c.in-Err.refusal) (sym c.in-Err.ensures.number)))
 
-pub invariant_of-book : goal.invariant_of-book
-invariant_of-book c = record { inside = inside _ _ _ _ _ c.in-Ok.ensures.number }
+pub invariant_of-opened : goal.invariant_of-opened
+invariant_of-opened c = record { inside = inside _ _ _ _ _ c.in-Ok.ensures.number }
 
 pub sector_at-requires : goal.sector_at-requires
 sector_at-requires c = names_fit _ _ _ _ _ _ (opened _ _ _ _ _ c.in-Ok.ensures.number)

@@ -3,13 +3,15 @@
 use mathlib.Core.Path.{◌≡◌, refl, sym, ap, ◌∙◌}
 use mathlib.Core.Bool.{true}
 use mathlib.Core.List.{List, [], ◌∷◌, ◌++◌, append_assoc, append-nil}
-use Prim.Native.Nat.{ℕ, zero, suc, ◌≤◌, ◌<◌}
+use Prim.Native.Nat.{ℕ, zero, suc, ◌-◌, ◌≤◌, ◌<◌}
 use native.Mathlib.Nat.{le_refl}
 use native.Mathlib.Omega.{arith}
-use lib.ListN.{length}
+use lib.ListN.{length, take, drop}
+use lib.Seq.{take-length, take_at}
+use Rattle.std.specs.Prelude.{Some}
 use Rattle.common.proofs.Laws.Turns.{turns_same, by_length}
-use Rattle.names.specs.Records.{Front, none, item, front, names_on, names_within, names_of, record_bytes, records_bytes, AllNames}
-use Rattle.names.proofs.Laws.Front.{front_record, front_item, item_long}
+use Rattle.names.specs.Records.{Front, none, item, front, names_on, names_within, front_length, names_of, record_bytes, records_bytes, AllNames}
+use Rattle.names.proofs.Laws.Front.{front_record, front_item, item_long, found}
 
 -- what is behind a record is shorter
 pub rest_shorter : (bytes : List ℕ) {name rest : List ℕ} → front bytes ≡ item name rest → length rest < length bytes
@@ -43,6 +45,35 @@ unfolding names_of names_within
 names_item [] {name} {rest} e = absurd (omega (arith, rest_shorter [] e))
 names_item (x ∷ bytes) {name} {rest} e =
     rw e (ap (λ (l : List (List ℕ)). name ∷ l) (within_same (length bytes) (length rest) rest (omega (arith, rest_shorter (x ∷ bytes) e)) (le_refl (length rest))))
+
+-- the first record, by its length, and the names behind it
+pub record Next (bytes : List ℕ) (n : ℕ) : Type 0 where
+  pub headed : 3 ≤ n
+  pub inside : n ≤ length bytes
+  pub names_are : names_of bytes ≡ take (n - 3) (drop 3 (take n bytes)) ∷ names_of (drop n bytes)
+
+pub names_next : (bytes : List ℕ) (n : ℕ) → Some n ≡ front_length (front bytes) → Next bytes n
+names_next bytes n some =
+    let f = found bytes n some in
+    let i = front_item bytes f.is in
+    let l = item_long bytes f.is in
+    let count : n - 3 ≡ length f.name = omega (arith, f.size) in
+    let record_is : take n bytes ≡ record_bytes true f.name = ap (take n) i.is ∙ take_at (record_bytes true f.name) f.rest n (omega (arith, f.size)) in
+    let first : take (n - 3) (drop 3 (take n bytes)) ≡ f.name = rw (count, record_is) (take-length f.name) in
+    let behind : f.rest ≡ drop n bytes = l.rest_is ∙ ap (λ (k : ℕ). drop k bytes) (sym f.size) in
+    record {
+      headed = omega (arith, f.size);
+      inside = omega (arith, f.size, l.in_all);
+      names_are = rw first (names_item bytes f.is ∙ ap (λ (l : List ℕ). f.name ∷ names_of l) behind);
+    }
+
+-- they are no more than the bytes
+pub names_few : (image : List ℕ) → length (names_of image) ≤ length image
+names_few = by_length (λ image. length (names_of image) ≤ length image) (λ image behind. on image (front image) refl behind)
+  where
+    on : (image : List ℕ) (f : Front) → front image ≡ f → ((rest : List ℕ) → length rest < length image → length (names_of rest) ≤ length rest) → length (names_of image) ≤ length image
+    on image none e behind = rw (names_none image e) (omega arith)
+    on image (item name rest) e behind = rw (names_item image e) (omega (arith, behind rest (rest_shorter image e), rest_shorter image e))
 
 -- ---- their bytes are read back
 

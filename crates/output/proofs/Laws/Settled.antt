@@ -11,7 +11,7 @@ use denote.Enum.Declared.{tag_of}
 use types.Run.{OneOf, miss}
 use borrow.Author.Tests.{lt-ltb, le-ltb, le-leb, lt-leb, ne_eqb}
 use Rattle.common.specs.Lists.{mapi, tab, up_to, on_run}
-use Rattle.common.proofs.Laws.Lists.{split, mapi_mapi, mapi_cong, mapi_tab}
+use Rattle.common.proofs.Laws.Lists.{split, mapi_mapi, mapi_cong, mapi_tab, mapi_all}
 use Rattle.state.specs.declared.State.{State}
 use Rattle.state.specs.State.{data_of}
 use Rattle.chip.proofs.Laws.Chip.{regular}
@@ -107,3 +107,7 @@ laid_by_run f slice to same =
     (λ k h. ⊎_elim (λ b. rw (lt-leb to k b, lt-ltb k to b) refl)
     (λ b. rw (le-leb to k b, lt-ltb k (length slice) h) (sym (same k b h))) (split k to))
     ∙ mapi_tab f slice
+
+-- byte by byte to its end
+pub laid_whole : (f : ℕ → ℕ) (slice : List ℕ) → mapi (up_to (length slice) (λ k x. f k)) slice ≡ tab (length slice) f
+laid_whole f slice = mapi_all (λ k x. f k) slice ∙ mapi_tab f slice

@@ -7,4 +7,4 @@ returns c =
     let a = c.args in
     let first = c.fill_run.ensures in
     let head = c.min-head.ensures in
-    λ bytes. rw (c.fill_run-2.ensures, first, head) (driven_in_runs a.at a.driven.now bytes)
+    λ bytes. rw (c.fill_run-2.ensures, first, head, c.from.ensures) (driven_in_runs a.at a.driven.now bytes)

@@ -6,5 +6,5 @@ use Rattle.output.proofs.show_array.Goals as goal
 pub returns : goal.returns
 returns c =
     let a = c.args in
-    rw (c.copy_run-2.ensures, c.copy_run.ensures, c.fill_run.ensures, c.min.ensures, c.min-head.ensures)
+    rw (c.copy_run-2.ensures, c.copy_run.ensures, c.fill_run.ensures, c.min.ensures, c.min-head.ensures, c.from.ensures)
     (read_in_runs (length a.array.now) a.from a.at a.array.now a.output.now c.requires.0 c.requires.1)

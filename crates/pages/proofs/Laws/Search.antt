@@ -1,12 +1,11 @@
 -- A search for the first and for the last changing address of some, by `find` and by `rfind`.
 -- Assumes nothing.
 use mathlib.Core.Path.{◌≡◌, refl, sym, ap, subst, ◌∙◌}
-use mathlib.Core.Bool.{Bool, true, false, not}
+use mathlib.Core.Bool.{Bool, true, false}
 use mathlib.Core.List.{List, [], ◌∷◌}
 use Prim.Native.Nat.{ℕ, zero, suc, ◌+◌, ◌-◌, ◌≤◌, ◌<◌}
 use native.Mathlib.Omega.{arith}
 use lib.ListN.{length, get_or}
-use lib.Dec.{eqb}
 use denote.Param.Members.{Mut}
 use denote.Ref.{Bor}
 use Rattle.std.specs.Bool.{⊤}
@@ -18,8 +17,6 @@ use Rattle.std.specs.Prelude.{Option, None, Some, unwrap_or}
 use Rattle.std.specs.declared.ops.Range.{Range}
 use Rattle.std.proofs.lemmas.Iterator.{YieldsList, first_from_find}
 use Rattle.std.proofs.lemmas.Iterator.Consumers.{YieldsList-from_shown}
-use Rattle.region.specs.Region.{changes}
-use Rattle.region.proofs.Laws.Region.{changes_inside}
 use Rattle.pages.specs.Parts.{First, Behind}
 
 -- ---- n addresses from one on, the last first
@@ -75,30 +72,6 @@ last_from_range s u f r Yes No d yes' no' = by r (first_from_find u f r Yes No d
         (omega arith, omega arith, h.0, λ k a b. above h.1 (omega arith) h.4 k (omega arith) b)
 
 -- ---- what is found
-
--- a byte of the region changes where the array has another than is wanted
-module _ (array : List ℕ) (start : ℕ) (wanted : List ℕ) (from to : ℕ) (low : start ≤ from) (high : to ≤ start + length wanted) where
-  abbrev pub differs : ℕ → Bool
-  differs k = not (eqb (get_or array k 0) (get_or wanted (k - start) 0))
-
-  same : (k : ℕ) → from ≤ k → k < to → changes array start wanted k ≡ differs k
-  same k h l = changes_inside array start wanted k (omega arith) (omega arith)
-
-  pub first_changes : (r : ℕ) → First differs from to r → First (changes array start wanted) from to r
-  first_changes r f = record {
-    low = f.low;
-    high = f.high;
-    before = λ k h l. same k h (omega (arith, f.high)) ∙ f.before k h l;
-    here = λ l. same r f.low l ∙ f.here l;
-  }
-
-  pub behind_changes : (r : ℕ) → Behind differs from to r → Behind (changes array start wanted) from to r
-  behind_changes r f = record {
-    low = f.low;
-    high = f.high;
-    after = λ k h l. same k (omega (arith, f.low)) l ∙ f.after k h l;
-    here = λ l. same (r - 1) (omega arith) (omega (arith, f.high)) ∙ f.here l;
-  }
 
 module _ (d : ℕ → Bool) (from to : ℕ) (h : from ≤ to) where
   pub first_found : (r : Option ℕ) (result : ℕ) → result ≡ unwrap_or r to

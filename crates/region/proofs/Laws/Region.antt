@@ -3,12 +3,15 @@
 use mathlib.Core.Path.{◌≡◌, refl, sym, ap, ◌∙◌}
 use mathlib.Core.Bool.{Bool, true, false, not, ◌||◌}
 use mathlib.Core.List.{List, [], ◌∷◌}
+use mathlib.Core.Logic.{⊎_elim}
+use Rattle.common.proofs.Laws.Lists.{split}
+use Rattle.std.proofs.lemmas.Grind.{get_or_default_zero}
 use Prim.Native.Nat.{ℕ, zero, suc, ◌+◌, ◌-◌, ◌≤◌, ◌<◌}
 use native.Mathlib.Nat.{add-zero}
 use native.Mathlib.Omega.{arith}
 use lib.Bits.{bit_and}
 use lib.Dec.{eqb}
-use lib.ListN.{length, get_or, take, drop, length-drop}
+use lib.ListN.{length, get_or, take, drop, length-drop, get_or-eq_default}
 use lib.Seq.{get_or-take, get_or-drop, length-take-le}
 use lib.Pointwise.{pointwise}
 use Rattle.std.specs.List.{list_any, zip}
@@ -32,6 +35,14 @@ module _ (start : ℕ) (wanted : List ℕ) (address : ℕ) where
 
   pub wanted_inside : start ≤ address → address - start < length wanted → wanted_at start wanted address ≡ get_or wanted (address - start) 0
   wanted_inside h l = wanted_in (within_yes start (length wanted) address h (omega arith))
+
+  -- from the region's start on: the byte there, and FF where there is none
+  pub wanted_got : start ≤ address → get_or wanted (address - start) 255 ≡ wanted_at start wanted address
+  wanted_got h =
+      ⊎_elim
+      (λ l. get_or_default_zero wanted (address - start) 255 l ∙ sym (wanted_inside h l))
+      (λ ge. get_or-eq_default wanted 255 {n = address - start} ge ∙ sym (wanted_out (within_above start (length wanted) address (omega (arith, ge)))))
+      (split (address - start) (length wanted))
 
 module _ (array : List ℕ) (start : ℕ) (wanted : List ℕ) (address : ℕ) where
   pub change_in_region : changes array start wanted address ≡ true → within start (length wanted) address ≡ true

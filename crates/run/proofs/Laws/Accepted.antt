@@ -160,14 +160,30 @@ module _ (wp : Bool) (script : List ℕ) (d : Device) (line : Line) where
   pub offset_only : carries_offset (script_number wp script d line) ≡ false → script_offset wp script d line ≡ 0
   offset_only none = script_located ∙ rw none refl
 
+  -- 1 and 2 carry none
+  chip_carries_none : (refusal : Refusal) → number_of refusal ≡ first_of (chip_refusals d) → carries_offset (number_of refusal) ≡ false
+  chip_carries_none refusal e = rw e (by_tests (is_sound d.state) (eqb (length d.array) (data_of d.state).size))
+    where
+      by_tests : (sound sized : Bool) → carries_offset (cond (not sound) state_not_sound (cond (not sized) wrong_array 0)) ≡ false
+      by_tests false sized = refl
+      by_tests true false = refl
+      by_tests true true = refl
+
   -- a refusal that is of no record
-  pub checked_by : (refusal : Refusal) → carries_offset (number_of refusal) ≡ false → number_of refusal ≡ script_number wp script d line
+  checked_by : (refusal : Refusal) → carries_offset (number_of refusal) ≡ false → number_of refusal ≡ script_number wp script d line
       → Checked wp script d line (in_struct (Err (no_offset refusal)))
   checked_by refusal none e = record {
     number_is = e;
     offset_is = sym (offset_only (ap carries_offset (sym e) ∙ none));
     counts_are = λ z. absurd (omega (arith, number_some refusal, z));
   }
+
+  -- the chip's
+  pub checked_by_chip : (refusal : Refusal) → number_of refusal ≡ first_of (chip_refusals d) → Checked wp script d line (in_struct (Err (no_offset refusal)))
+  checked_by_chip refusal e =
+      let number_is : number_of refusal ≡ script_number wp script d line =
+      sym (number_surveyed ∙ first_before (chip_refusals d) (by_survey (survey_of script)) (number_of refusal) (number_some refusal) (sym e)) in
+      checked_by refusal (chip_carries_none refusal e) number_is
 
   module _ (sound : is_sound d.state ≡ true) (sized : length d.array ≡ (data_of d.state).size) where
     -- the survey's

@@ -8,25 +8,23 @@ use Prim.Native.Nat.{ℕ, ◌+◌, ◌-◌, ◌≤◌, ◌<◌}
 use native.Mathlib.Omega.{arith}
 use lib.ListN.{length, take, drop, length-drop, drop_of_length-le}
 use lib.Seq.{drop-drop, take_at}
-use Rattle.std.specs.Prelude.{Some}
-use Rattle.std.specs.Option.{is_some}
+use denote.Ref.{Bor}
+use Rattle.std.specs.Prelude.{Option, Some, None, unwrap_or}
+use Rattle.std.specs.Option.{MatchOption, is_some}
 use Rattle.common.specs.Buffer.{Put}
 use Rattle.common.proofs.Laws.Buffer.{Left, left_start, left_room, left_turn, left_none}
 use Rattle.common.proofs.Laws.Lists.{split}
 use Rattle.names.specs.Records.{Front, none, item, front, front_length, record_bytes, records_bytes}
 use Rattle.names.proofs.Laws.Front.{found, front_item, item_long}
-use Rattle.salvage.specs.Pieces.{Piece, kept, pieces_in, kept_names, stretches_from, stretch_bytes, list_bytes}
-use Rattle.salvage.specs.Walk.{StretchEnds, PiecesPut}
+use Rattle.salvage.specs.Pieces.{kept, pieces_in, kept_names, stretches_from, stretch_bytes, list_bytes}
+use Rattle.salvage.specs.Pieces as Pieces
+use Rattle.salvage.specs.Walk.{StretchEnds, Lies, PiecesPut}
+use Rattle.salvage.specs.declared.pieces.Piece.{Piece}
+use Rattle.salvage.specs.declared.pieces.Piece.TheVariants.{Kept, Dropped}
 use Rattle.salvage.proofs.Laws.Kept.{records_fit}
 use Rattle.salvage.proofs.Laws.Pieces.{pieces_nil, pieces_item, fresh_end, fresh_record, stretch_ends}
 
 -- ---- the end of a stretch, looked for
-
--- from its start up to here no record begins
-pub record Searched (bytes : List ℕ) (at end : ℕ) : Type 0 where
-  pub onward : at < end
-  pub inside : end ≤ length bytes
-  pub nothing : (k : ℕ) → at ≤ k → k < end → front (drop k bytes) ≡ none
 
 none_there : (bytes : List ℕ) → false ≡ is_some (front_length (front bytes)) → front bytes ≡ none
 none_there bytes h = by (front bytes) refl h
@@ -35,30 +33,24 @@ none_there bytes h = by (front bytes) refl h
     by none e h = e
     by (item name rest) e h = absurd (false≢true h)
 
-module _ (bytes : List ℕ) (at : ℕ) where
-  pub search_start : at < length bytes → front (drop at bytes) ≡ none → Searched bytes at (at + 1)
-  search_start h e = record {
-    onward = omega arith;
-    inside = omega arith;
-    nothing = λ k a b. let here : k ≡ at = omega arith in rw here e;
-  }
+module _ (bytes : List ℕ) (at : ℕ) (inside : at < length bytes) (e : front (drop at bytes) ≡ none) where
+  abbrev Unrecorded : ℕ → Type 0
+  Unrecorded k = false ≡ is_some (front_length (front (drop k bytes)))
 
-  module _ (end : ℕ) (s : Searched bytes at end) where
-    pub search_turn : end < length bytes → false ≡ is_some (front_length (front (drop end bytes))) → Searched bytes at (end + 1)
-    search_turn h e = record {
-      onward = omega (arith, s.onward);
-      inside = omega arith;
-      nothing = λ k a b.
-          ⊎_elim (λ less. s.nothing k a less) (λ from. let here : k ≡ end = omega arith in rw here (none_there (drop end bytes) e)) (split k end);
-    }
+  -- from its start up to a place no record begins
+  nothing : (end : ℕ) → ((k : ℕ) → at + 1 ≤ k → k < end → Unrecorded k) → (k : ℕ) → at ≤ k → k < end → front (drop k bytes) ≡ none
+  nothing end clear k a b =
+      ⊎_elim (λ first. let here : k ≡ at = omega arith in rw here e) (λ behind. none_there (drop k bytes) (clear k behind b)) (split k (at + 1))
 
-    pub search_found : true ≡ is_some (front_length (front (drop end bytes))) → StretchEnds bytes at end
-    search_found some = stretch_ends bytes at end s.onward s.inside s.nothing (fresh_record (drop end bytes) some)
-
-    pub search_end : length bytes ≤ end → StretchEnds bytes at (length bytes)
-    search_end h =
-        let all : end ≡ length bytes = omega (arith, s.inside) in
-        rw all at (stretch_ends bytes at end s.onward s.inside s.nothing (fresh_end bytes end h))
+  -- the first place behind it at which one does, or else the end
+  pub stretch_found : (r : Option ℕ) (end : ℕ) → end ≡ unwrap_or r (length bytes)
+      → MatchOption r ((k : ℕ) → at + 1 ≤ k → k < length bytes → Unrecorded k)
+      (λ i. (at + 1 ≤ i) × (i < length bytes) × (true ≡ is_some (front_length (front (drop i bytes)))) × ((k : ℕ) → at + 1 ≤ k → k < i → Unrecorded k))
+      → StretchEnds bytes at end
+  stretch_found None end is f =
+      rw is (stretch_ends bytes at (length bytes) inside (omega arith) (nothing (length bytes) f) (fresh_end bytes (length bytes) (omega arith)))
+  stretch_found (Some i) end is f =
+      rw is (stretch_ends bytes at i (omega (arith, f.0)) (omega (arith, f.1)) (nothing i f.3) (fresh_record (drop i bytes) f.2))
 
 -- ---- a record that is kept
 
@@ -85,6 +77,18 @@ kept_at bytes at n some =
       long = long;
       pieces_are = pieces_item (drop at bytes) f.is ∙ ap (λ (rest : List ℕ). kept f.name ∷ pieces_in rest) behind;
     }
+
+-- ---- a piece, as the walk gives it
+
+module _ {held bytes : List ℕ} (same : held ≡ bytes) (at next : ℕ) {piece : Piece} where
+  pub lies_dropped : {start count : ℕ} → piece ≡ Dropped start count → Lies held at next piece → Lies bytes at next (Dropped start count)
+  lies_dropped e lies = rw same at (rw e at lies)
+
+  pub lies_kept : {r : Bor (List ℕ)} → piece ≡ Kept r → Lies held at next piece
+      → KeptAt bytes at (next - at) × (at + (next - at) ≡ next) × (r.now ≡ take (next - at) (drop at bytes))
+  lies_kept {r} e lies =
+      let there : Lies bytes at next (Kept r) = rw same at (rw e at lies) in
+      (kept_at bytes at (next - at) (sym there.2), omega (arith, there.0), there.1)
 
 -- ---- what is left to do from a place on
 
@@ -125,7 +129,7 @@ module _ (bytes : List ℕ) (at n : ℕ) (r : KeptAt bytes at n) where
   pub list_at_kept : list_at bytes at ≡ list_at bytes (at + n)
   unfolding stretches_from
   list_at_kept =
-      ap (λ (pieces : List Piece). list_bytes (stretches_from at pieces)) r.pieces_are
+      ap (λ (pieces : List Pieces.Piece). list_bytes (stretches_from at pieces)) r.pieces_are
       ∙ ap (λ (k : ℕ). list_bytes (stretches_from (at + k) (pieces_in (drop (at + n) bytes)))) r.long
 
 -- ---- laying both, from a place on

@@ -3,7 +3,7 @@
 use mathlib.Core.Path.{◌≡◌, refl, sym, ap, ◌∙◌}
 use mathlib.Core.List.{List, [], ◌∷◌}
 use Prim.Native.Nat.{ℕ, ◌+◌, ◌*◌, ◌≤◌, ◌<◌}
-use native.Mathlib.Nat.{zero-add, add-zero, add_assoc}
+use native.Mathlib.Nat.{add-zero, add_assoc}
 use native.Mathlib.Omega.{arith}
 use lib.Dec.{ltb}
 use lib.ListN.{length, take, drop}
@@ -107,11 +107,6 @@ abbrev pub counted_from : ℕ → ℕ → ℕ → ℕ → Decoded → Result Cou
 counted_from at frames microseconds output (records rs) =
     Ok (record { frames = frames + frames_in rs; microseconds = microseconds + microseconds_in rs; output = output + output_length rs })
 counted_from at frames microseconds output (bad_at fault offset) = Err (record { refusal = refusal_of fault; offset = at + offset })
-
--- nothing is counted at the start
-counted_start : (d : Decoded) → counted_from 0 0 0 0 d ≡ counted d
-counted_start (records rs) = simp zero-add
-counted_start (bad_at fault offset) = simp zero-add
 
 -- a frame of n bytes is counted
 counted_frame : (at f m o n next : ℕ) (bytes : List ℕ) (d : Decoded) → length bytes ≡ n → next ≡ at + record_length (frame bytes)

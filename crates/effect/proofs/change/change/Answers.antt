@@ -19,7 +19,7 @@ returns-in-Fill c =
 pub returns-in-Program : goal.returns-in-Program
 returns-in-Program c =
     let a = c.args in
-    rw c.in-Program.is (c.and_run.ensures ∙ program_in_a_run c.in-Program.start c.in-Program.count a.input.now a.array.now c.in-Program.from)
+    rw (c.in-Program.is, ← c.from.ensures) (c.and_run.ensures ∙ program_in_a_run c.in-Program.start c.in-Program.count a.input.now a.array.now _)
 
 pub loop-k-init : goal.loop-k-init
 loop-k-init c =

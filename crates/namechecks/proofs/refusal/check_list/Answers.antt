@@ -1,21 +1,17 @@
 -- `namechecks::refusal::check_list` meets its contract: the book's own refusals come first, and then those about the sector and the list.
-use mathlib.Core.Path.{◌≡◌, refl, sym, ap, ◌∙◌}
-use mathlib.Core.Bool.{Bool, true, not, ◌&&◌, ◌||◌}
+use mathlib.Core.Path.{◌≡◌, sym, ap, ◌∙◌}
+use mathlib.Core.Bool.{Bool, not, ◌&&◌, ◌||◌}
 use mathlib.Core.List.{List, [], ◌∷◌}
-use Prim.Native.Nat.{ℕ, ◌+◌, ◌≤◌, ◌<◌}
-use native.Mathlib.Omega.{arith}
+use Prim.Native.Nat.{ℕ, ◌<◌}
 use lib.Dec.{eqb}
 use lib.ListN.{length}
-use borrow.Author.Tests.{eqb-true, not-false}
 use borrow.Author.Rules.{rules}
 use Rattle.common.specs.Refusals.{wrong_region, wrong_names, name_twice, number_of, number_in, first_of}
-use Rattle.common.proofs.Laws.Booleans.{or_none_r}
-use Rattle.common.proofs.Laws.Refusals.{number_some, Clear, clear, first_before}
+use Rattle.common.proofs.Laws.Refusals.{number_some, first_before}
 use Rattle.state.specs.declared.State.{State}
 use Rattle.state.specs.State.{data_of}
 use Rattle.book.specs.Book.{is_read}
 use Rattle.book.specs.Refusals.{is_sector, book_refusals}
-use Rattle.book.proofs.Laws.Refusals.{sector_fits}
 use Rattle.namelist.specs.Listed.{listed, is_bad, names_in}
 use Rattle.namelist.specs.Twice.{is_twice}
 use Rattle.namelist.proofs.Laws.Listed.{good_most}
@@ -32,15 +28,6 @@ module _ (s : State) (array : List ℕ) (book sector : ℕ) where
   own_is : (there : Bool) (number : ℕ) → there ≡ is_sector (data_of s).size sector → number ≡ first_of (book_refusals s (length array) book (not there)) → first_of own ≡ number
   own_is there number e f = sym (f ∙ ap (λ (t : Bool). first_of (book_refusals s (length array) book (not t))) e)
 
-  -- a sound book is in the array
-  book_fits : first_of own ≡ 0 → book + 512 ≤ length array
-  book_fits e =
-      let none : Clear own = clear own refl e in
-      let size : ℕ = (data_of s).size in
-      let sized : length array ≡ size = eqb-true (length array) size (not-false (eqb (length array) size) none.1.0) in
-      let here : is_sector size book ≡ true = not-false (is_sector size book) (or_none_r (not (is_sector size sector)) (not (is_sector size book)) none.1.1.0) in
-      omega (arith, sized, sector_fits s book here)
-
   -- the book's refusals come first
   of_book : (list : List ℕ) (moving : Bool) (number : ℕ) → 0 < number → first_of own ≡ number → number ≡ first_of (list_refusals s array book sector list moving)
   of_book list moving number h e =
@@ -50,18 +37,13 @@ module _ (s : State) (array : List ℕ) (book sector : ℕ) where
       ∷ (name_twice, is_twice (names_in (listed list)))
       ∷ []) number h e)
 
-pub returns-in_err-check_book-clause-number : goal.returns-in_err-check_book-clause-number
-returns-in_err-check_book-clause-number c =
+pub returns-in_err-opened-clause-number : goal.returns-in_err-opened-clause-number
+returns-in_err-opened-clause-number c =
     let a = c.args in
-    let passed : number_in c.from_residual.result ≡ number_of c.in_err-check_book.field-0.0 = search rules in
+    let passed : number_in c.from_residual.result ≡ number_of c.in_err-opened.field-0.0 = search rules in
     passed
-    ∙ of_book a.s a.array.now a.book a.sector a.list.now a.moving _ (number_some c.in_err-check_book.field-0.0)
-    (own_is a.s a.array.now a.book a.sector _ _ c.is_sector.ensures c.in_err-check_book.ensures)
-
-pub invariant_of-book : goal.invariant_of-book
-invariant_of-book c =
-    let a = c.args in
-    record { inside = book_fits a.s a.array.now a.book a.sector (own_is a.s a.array.now a.book a.sector _ _ c.is_sector.ensures c.in_ok-check_book.ensures) }
+    ∙ of_book a.s a.array.now a.book a.sector a.list.now a.moving _ (number_some c.in_err-opened.field-0.0)
+    (own_is a.s a.array.now a.book a.sector _ _ c.is_sector.ensures c.in_err-opened.ensures.number)
 
 pub is_past-requires : goal.is_past-requires
-is_past-requires c = rw c.count.ensures (good_most _ c.in-Some.names.good)
+is_past-requires c = rw c.count.ensures (good_most _ c.in_ok-names.names.good)

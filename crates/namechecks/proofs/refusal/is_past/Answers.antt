@@ -10,5 +10,5 @@ use Rattle.namechecks.proofs.refusal.is_past.Goals as goal
 pub returns : goal.returns
 returns c =
     any_from_yields_List (is_read c.args.book.now.array.now c.args.book.now.sector) c.any.new.self _ c.any.result c.any.ensures.ran
-    (YieldsList-from_range c.args.names 4096 _ refl refl) (λ x b q k. search (rules, tests))
-    ∙ sym (past_any (is_read c.args.book.now.array.now c.args.book.now.sector) c.args.names)
+    (YieldsList-from_range c.args.count 4096 _ refl refl) (λ x b q k. search (rules, tests))
+    ∙ sym (past_any (is_read c.args.book.now.array.now c.args.book.now.sector) c.args.count)

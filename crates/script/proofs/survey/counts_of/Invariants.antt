@@ -5,8 +5,8 @@ use lib.ListN.{length}
 use Rattle.script.proofs.Laws.Survey.{Counted}
 use Rattle.script.proofs.survey.counts_of.Given as goal
 
-abbrev pub invariant-loop-found : goal.invariant-loop-found
-invariant-loop-found l = Counted l.script l.at l.counts.frames l.counts.microseconds l.counts.output
+abbrev pub invariant-loop-length : goal.invariant-loop-length
+invariant-loop-length l = Counted l.script l.at l.counts.frames l.counts.microseconds l.counts.output
 
-abbrev pub decreases-loop-found : goal.decreases-loop-found
-decreases-loop-found l = length l.script - l.at
+abbrev pub decreases-loop-length : goal.decreases-loop-length
+decreases-loop-length l = length l.script - l.at
