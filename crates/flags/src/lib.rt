@@ -3,6 +3,8 @@
 #![tactic(auto)]
 
 ghost use Rattle.std.specs.Prelude.{◌≡◌, ◌+◌, ◌≤◌, length};
+ghost use Rattle.names.specs.Records.{padded};
+ghost use Rattle.promises.specs.Promises.{Plans};
 ghost use Rattle.sectors.specs.Images.{sector_part};
 ghost use Rattle.flags.specs.Answers.{name_told, NameMarks, BookMoves, returned_of, BookReturns};
 
@@ -117,6 +119,24 @@ fn return_of(planned: Planned, unlisted: u32) -> Returned
     }
 }
 
+// Plan a book with these used bytes in an erased sector. Not inlined: `move_back` would clear the sector that is laid here before it checks anything, and
+// a refusal would cost twice as much.
+#[inline(never)]
+fn plan_book(
+    s: State,
+    wp: bool,
+    array: &[u8],
+    book: usize,
+    used: &[u8; USED],
+    buffer: &mut [u8],
+) -> Planned
+    ensures { Plans s wp array.now book (padded used.now) buffer.old buffer.new result }
+{
+    let mut wanted = image::blank();
+    put(used, &mut wanted, 0);
+    promises::plan_update(s, wp, array, book, &wanted, buffer)
+}
+
 // Plan the book of the scenes that the records name, by the same list.
 pub fn move_back(
     s: State,
@@ -135,8 +155,5 @@ pub fn move_back(
     };
     let mut used = [ERASED; USED];
     let unlisted = returning::mark_listed(sector_at(array, sector), &names, &mut used);
-    let mut wanted = image::blank();
-    put(&used, &mut wanted, 0);
-    let planned = promises::plan_update(s, wp, array, book, &wanted, buffer);
-    return_of(planned, unlisted)
+    return_of(plan_book(s, wp, array, book, &used, buffer), unlisted)
 }

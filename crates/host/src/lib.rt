@@ -120,7 +120,7 @@ pub fn zeradok_run(
 pub fn zeradok_read(script: &[u8], offset: usize) -> Record
     ensures { ReadAnswered script.now offset result }
 {
-    reader::record_of(script::reader::record_at(script, offset), offset)
+    script::reader::record_at(script, offset).into()
 }
 
 // Whether a scene of a flag book is read: 1 or 0.

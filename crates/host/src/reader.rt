@@ -2,8 +2,7 @@
 ghost use Rattle.std.specs.Prelude.{◌≡◌};
 ghost use Rattle.host.specs.Read.{record_of};
 
-use common::refusals::Refusal;
-use script::reader::Found;
+use script::reader::{AtOffset, Found};
 
 // Kinds of answers, by the numbers that C knows.
 enum Kind {
@@ -26,45 +25,36 @@ pub struct Record {
     pub next: usize,
 }
 
-// No From: the offset that the reader was given goes in too.
-pub fn record_of(read: Result<Option<Found>, Refusal>, offset: usize) -> Record
-    ensures { result ≡ record_of offset read }
-{
-    let empty = Record {
-        number: 0,
-        kind: Kind::End as u32,
-        start: 0,
-        length: 0,
-        microseconds: 0,
-        next: offset,
-    };
-    match read {
-        Ok(
-            Some(
-                Found::Frame {
-                    start,
-                    length,
-                    next,
-                },
-            ),
-        ) => Record {
-            kind: Kind::Frame as u32,
-            start,
-            length,
-            next,
-            ..empty
-        },
-        Ok(Some(Found::Wait { microseconds, next })) => Record {
-            kind: Kind::Wait as u32,
-            microseconds,
-            next,
-            ..empty
-        },
-        Ok(None) => empty,
-        Err(refusal) => Record {
-            number: refusal.number(),
-            kind: Kind::Refused as u32,
-            ..empty
-        },
+impl From<AtOffset> for Record {
+    ghost from_gives = { λ answer laid. laid ≡ record_of answer };
+
+    fn from(answer: AtOffset) -> Record {
+        let empty = Record {
+            number: 0,
+            kind: Kind::End as u32,
+            start: 0,
+            length: 0,
+            microseconds: 0,
+            next: answer.next,
+        };
+        match answer.read {
+            Ok(Some(Found::Frame { start, length, .. })) => Record {
+                kind: Kind::Frame as u32,
+                start,
+                length,
+                ..empty
+            },
+            Ok(Some(Found::Wait { microseconds, .. })) => Record {
+                kind: Kind::Wait as u32,
+                microseconds,
+                ..empty
+            },
+            Ok(None) => empty,
+            Err(refusal) => Record {
+                number: refusal.number(),
+                kind: Kind::Refused as u32,
+                ..empty
+            },
+        }
     }
 }

@@ -1,17 +1,20 @@
 // A good list: read, its names taken one by one, counted and searched.
 ghost use Rattle.std.specs.Prelude.{◌≡◌, true, false, MatchOption, length};
 ghost use Rattle.std.specs.Iterator.{YieldsFirstRef, item_count};
-ghost use Rattle.namelist.specs.Listed.{listed, is_bad, names_in, found_in};
+ghost use Rattle.namelist.specs.Listed.{listed, is_bad, names_in, count_in, found_in};
 
-use names::name::is_name;
+use names::name::{is_name, same};
 
 pub const MOST_NAMES: usize = 4096;
+
+// What a bad list counts as: more names than a list may have.
+const BAD: usize = 4097;
 
 // The bytes of a list that is not bad.
 #[derive(Clone, Copy)]
 pub struct NameList<'a> {
     pub bytes: &'a [u8],
-    ghost good: { is_bad (listed bytes.now) ≡ false },
+    pub ghost good: { is_bad (listed bytes.now) ≡ false },
 }
 
 impl<'a> NameList<'a> {
@@ -24,7 +27,8 @@ impl<'a> NameList<'a> {
         let mut names: usize = 0;
         while let Some((length, rest)) = left.split_first() {
             let (name, others) = rest.split_at_checked(usize::from(*length))?;
-            if names == MOST_NAMES || !is_name(name) {
+            let is_full = names == MOST_NAMES;
+            if is_full || !is_name(name) {
                 return None;
             }
             names += 1;
@@ -49,7 +53,17 @@ impl<'a> NameList<'a> {
     pub fn position_of(&self, name: &[u8]) -> Option<usize>
         ensures { result ≡ found_in name.now (names_in (listed self.now.bytes.now)) }
     {
-        self.iter().position(|other| name == other)
+        self.iter().position(|other| same(name, other))
+    }
+}
+
+// How many names any list has; a bad one counts as 4,097.
+pub fn count(list: &[u8]) -> usize
+    ensures { result ≡ count_in (listed list.now) }
+{
+    match NameList::read(list) {
+        Some(names) => names.count(),
+        None => BAD,
     }
 }
 

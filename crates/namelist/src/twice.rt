@@ -6,6 +6,7 @@ ghost use Rattle.namelist.specs.Listed.{listed, names_in};
 ghost use Rattle.namelist.specs.Twice.{is_twice, print_of};
 
 use crate::list::{MOST_NAMES, NameList};
+use names::name::same;
 
 fn print_of(name: &[u8]) -> u32
     ensures { result ≡ print_of name.now }
@@ -24,7 +25,7 @@ impl NameList<'_> {
     fn is_among(&self, count: usize, name: &[u8]) -> bool
         ensures { result ≡ is_on name.now (take count (names_in (listed self.now.bytes.now))) }
     {
-        self.iter().take(count).any(|other| name == other)
+        self.iter().take(count).any(|other| same(name, other))
     }
 
     pub fn has_twice(&self) -> bool

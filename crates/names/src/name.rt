@@ -1,6 +1,7 @@
 // What bytes are a name.
 ghost use Rattle.std.specs.Prelude.{◌≡◌};
 ghost use Rattle.names.specs.Records.{is_name_byte, all_name, is_name};
+ghost use Rattle.names.specs.Search.{same_bytes};
 
 const LONGEST_NAME: usize = 32;
 
@@ -34,4 +35,22 @@ pub fn is_name(bytes: &[u8]) -> bool
     ensures { result ≡ is_name bytes.now }
 {
     (1..=LONGEST_NAME).contains(&bytes.len()) && all_name(bytes)
+}
+
+// Whether two names are the same, byte for byte. A list is searched by this, and most of its names differ in their first bytes. There `==` would cost
+// a call: of names below four bytes, and of longer ones behind the fourth. So the shortest are asked byte by byte, and of the longer ones eight first.
+#[inline(always)]
+pub fn same(bytes: &[u8], others: &[u8]) -> bool
+    ensures { result ≡ same_bytes bytes.now others.now }
+{
+    if bytes.len() != others.len() {
+        return false;
+    }
+    if bytes.len() < 4 {
+        return bytes.iter().zip(others).all(|(byte, other)| byte == other);
+    }
+    if 8 < bytes.len() && !others.starts_with(&bytes[..8]) {
+        return false;
+    }
+    bytes == others
 }

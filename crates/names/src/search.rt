@@ -1,6 +1,7 @@
 // The records of a sector, searched for a name.
 ghost use Rattle.names.specs.Search.{Searched};
 
+use super::name::same;
 use super::record::{HEAD, record_at};
 
 // Where the record begins that has the name; if none has, where the records end.
@@ -12,7 +13,7 @@ pub fn find(bytes: &[u8], name: &[u8]) -> Result<usize, usize>
     while let Some(size) = record_at(bytes, at) {
         let end = at + size;
         let other = &bytes[at + HEAD..end];
-        if name == other {
+        if same(name, other) {
             return Ok(at);
         }
         at = end;

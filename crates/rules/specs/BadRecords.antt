@@ -103,8 +103,7 @@ pub record SurveyRules (script : List ℕ) : Type 0 where
       → ((survey_of script).frames ≡ 0) × (((survey_of script).microseconds ≡ 0) × ((survey_of script).output ≡ 0))
   pub counts : (survey_of script).number ≡ 0 → CountedScript script (survey_of script).frames (survey_of script).microseconds (survey_of script).output
   -- the reader says the same of the record there
-  pub read_there : Carries (survey_of script).number
-      → RefusedWith (survey_of script).number (survey_of script).offset (record_at script (survey_of script).offset)
+  pub read_there : Carries (survey_of script).number → RefusedWith script (survey_of script).offset (survey_of script).number
   -- run, a script that is accepted here is refused for what is not in it alone
   pub then_run : (wp : Bool) (d : Device) (line : Line) (ran : Ran) (after : Device) (line_after : Line)
       → (survey_of script).number ≡ 0 → ScriptRun wp script d line ran after line_after

@@ -9,7 +9,8 @@ use Rattle.common.specs.declared.refusals.Refusal.TheVariants.{ScriptTooLong, Un
 use Rattle.script.specs.Decode.{Fault, unknown_mark, wrong_length, cut_short, fault_number, Front, end, item, malformed, front}
 use Rattle.script.specs.declared.reader.Found.{Found}
 use Rattle.script.specs.declared.reader.Found.TheVariants.{Frame, Wait}
-use Rattle.script.specs.Answers.{Read, case_of, number_of, next_of, microseconds_of, start_of, length_of, part_of}
+use Rattle.script.specs.declared.reader.AtOffset.{AtOffset}
+use Rattle.script.specs.Answers.{Read, case_of, number_of, microseconds_of, start_of, length_of, part_of}
 
 -- the number of the two bytes from an index on, "high first"
 abbrev pub two_bytes_at : List ℕ → ℕ → ℕ
@@ -118,13 +119,17 @@ front_part (malformed fault) = []
 unfoldable pub frame_part : List ℕ → ℕ → List ℕ
 frame_part = read_in_order (λ refusal. []) front_part
 
+-- the whole answer
+abbrev pub at_offset : List ℕ → ℕ → AtOffset
+at_offset script offset = record { read = record_at script offset; next = reader_next script offset }
+
 -- the reader's promise: its answer, and each value of it
-pub record Answered (script : List ℕ) (offset : ℕ) (found : Read) : Type 0 where
-  pub answer_is : found ≡ record_at script offset
-  pub kind_is : case_of found ≡ reader_kind script offset
-  pub number_is : number_of found ≡ reader_number script offset
-  pub next_is : next_of offset found ≡ reader_next script offset
-  pub microseconds_are : microseconds_of found ≡ reader_microseconds script offset
-  pub start_is : start_of found ≡ reader_start script offset
-  pub length_is : length_of found ≡ reader_length script offset
-  pub part_is : part_of script found ≡ frame_part script offset
+pub record Answered (script : List ℕ) (offset : ℕ) (r : AtOffset) : Type 0 where
+  pub answer_is : r.read ≡ record_at script offset
+  pub kind_is : case_of r.read ≡ reader_kind script offset
+  pub number_is : number_of r.read ≡ reader_number script offset
+  pub next_is : r.next ≡ reader_next script offset
+  pub microseconds_are : microseconds_of r.read ≡ reader_microseconds script offset
+  pub start_is : start_of r.read ≡ reader_start script offset
+  pub length_is : length_of r.read ≡ reader_length script offset
+  pub part_is : part_of script r.read ≡ frame_part script offset

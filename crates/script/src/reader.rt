@@ -1,8 +1,9 @@
 // The reader: what the record at an offset of a script is.
 ghost use Rattle.std.specs.Prelude.{◌≡◌, ◌+◌, ◌≤◌, length, take, drop};
 ghost use Rattle.common.specs.Limits.{longest_script};
+ghost use Rattle.script.specs.Answers.{next_of};
 ghost use Rattle.script.specs.Decode.{front_frame, front_wait, front};
-ghost use Rattle.script.specs.Reader.{answer, found_in, frame_part, Answered};
+ghost use Rattle.script.specs.Reader.{answer, found_in, frame_part, record_at, Answered};
 
 use super::marks::{FRAME_MARK, SCRIPT_MARK, WAIT_MARK};
 use common::limits::{LONGEST_FRAME, LONGEST_SCRIPT};
@@ -21,6 +22,14 @@ pub enum Found {
         microseconds: u32,
         next: usize,
     },
+}
+
+// What the reader answers at an offset: a record, none at the end, or a refusal; and the next offset, which is the given one at
+// the end and with a refusal.
+#[derive(Clone, Copy, Debug, PartialEq, Eq)]
+pub struct AtOffset {
+    pub read: Result<Option<Found>, Refusal>,
+    pub next: usize,
 }
 
 // The record whose mark 5A 46 is at the offset, by the bytes behind the mark.
@@ -77,9 +86,9 @@ pub fn front_at(script: &[u8], offset: usize) -> Result<Option<Found>, Refusal>
     }
 }
 
-// The record at an offset of a script. It looks at this one record only.
-pub fn record_at(script: &[u8], offset: usize) -> Result<Option<Found>, Refusal>
-    ensures { Answered script.now offset result }
+// What stands at an offset of any script, wherever the offset lies.
+fn read_in_order(script: &[u8], offset: usize) -> Result<Option<Found>, Refusal>
+    ensures { result ≡ record_at script.now offset }
 {
     if LONGEST_SCRIPT < script.len() {
         return Err(Refusal::ScriptTooLong);
@@ -89,6 +98,27 @@ pub fn record_at(script: &[u8], offset: usize) -> Result<Option<Found>, Refusal>
         return Err(Refusal::CutShort);
     }
     front_at(script, offset)
+}
+
+// The next offset, of what was read at this one.
+fn next_of(read: Result<Option<Found>, Refusal>, offset: usize) -> usize
+    ensures { result ≡ next_of offset read }
+{
+    match read {
+        Ok(Some(Found::Frame { next, .. } | Found::Wait { next, .. })) => next,
+        Ok(None) | Err(_) => offset,
+    }
+}
+
+// The record at an offset of a script. It looks at this one record only.
+pub fn record_at(script: &[u8], offset: usize) -> AtOffset
+    ensures { Answered script.now offset result }
+{
+    let read = read_in_order(script, offset);
+    AtOffset {
+        read,
+        next: next_of(read, offset),
+    }
 }
 
 // A part of a script whose place is known, as `record_at` answers it for a frame.
@@ -105,7 +135,7 @@ pub fn part_at(script: &[u8], start: usize, count: usize) -> &[u8]
 pub fn frame_part(script: &[u8], offset: usize) -> &[u8]
     ensures { result.now ≡ frame_part script.now offset }
 {
-    match record_at(script, offset) {
+    match record_at(script, offset).read {
         Ok(Some(Found::Frame { start, length, .. })) => part_at(script, start, length),
         Ok(Some(Found::Wait { .. }) | None) | Err(_) => &script[..0],
     }

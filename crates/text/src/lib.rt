@@ -108,6 +108,7 @@ fn put_shown_pair(byte: u8, driven: u8, text: &mut [u8], at: usize) -> usize
 struct Shown<'a> {
     bytes: &'a [u8],
     driven: &'a [u8],
+    ghost long: { length driven.now ≡ length bytes.now },
 }
 
 impl Spelled for Shown<'_> {
@@ -115,8 +116,9 @@ impl Spelled for Shown<'_> {
 
     fn put(self, text: &mut [u8], at: usize) -> usize {
         let mut next = at;
-        for (byte, driven) in self.bytes.iter().zip(self.driven) {
-            next = put_shown_pair(*byte, *driven, text, next);
+        // No `zip`: it would ask at each byte whether either slice has ended.
+        for (i, byte) in self.bytes.iter().enumerate() {
+            next = put_shown_pair(*byte, self.driven[i], text, next);
         }
         next
     }

@@ -3,10 +3,12 @@
 use mathlib.Core.Path.{◌≡◌, refl, ap}
 use mathlib.Core.Bool.{Bool, true, false, false≢true, ◌||◌}
 use mathlib.Core.List.{List, [], ◌∷◌}
-use Prim.Native.Nat.{ℕ, zero, suc, ◌<◌}
+use Prim.Native.Nat.{ℕ, zero, suc, ◌+◌, ◌≤◌, ◌<◌}
+use native.Mathlib.Numerals.{add-one}
 use native.Mathlib.Omega.{arith}
 use lib.Dec.{eqb, ltb}
-use lib.ListN.{length, get_or}
+use lib.ListN.{length, get_or, drop, drop_of_length-le}
+use lib.Seq.{drop-cons}
 use borrow.Author.Tests.{eq-eqb, eqb-true, ltb-false}
 use Rattle.std.specs.List.{list_any}
 use Rattle.common.specs.Refusals.{Exactly}
@@ -25,6 +27,20 @@ over_none = refl
 pub over_one : (scene : ℕ) → has_over (scene ∷ []) ≡ ltb 4095 scene
 unfolding has_over
 over_one scene = or_false (ltb 4095 scene)
+
+module _ (scenes : List ℕ) (i : ℕ) where
+  -- a search at its turn i: the entry is over, or it is not, or there is none left
+  pub over_found : i < length scenes → ltb 4095 (get_or scenes i 0) ≡ true → has_over (drop i scenes) ≡ true
+  unfolding has_over
+  over_found h e = rw (drop-cons scenes i 0 h, e) refl
+
+  pub over_turn : i < length scenes → ltb 4095 (get_or scenes i 0) ≡ false → has_over (drop i scenes) ≡ has_over (drop (i + 1) scenes)
+  unfolding has_over
+  over_turn h e = rw (drop-cons scenes i 0 h, e, add-one i) refl
+
+  pub over_end : length scenes ≤ i → has_over (drop i scenes) ≡ false
+  unfolding has_over
+  over_end h = rw (drop_of_length-le scenes h) refl
 
 -- a search for one
 pub over_any : (scenes : List ℕ) → has_over scenes ≡ list_any (ltb 4095) scenes

@@ -8,15 +8,17 @@ use native.Mathlib.Numerals.{add-one}
 use native.Mathlib.Omega.{arith}
 use lib.Dec.{eqb}
 use lib.ListN.{length, get_or, take, drop}
-use lib.Seq.{take-length}
+use lib.Seq.{ext_get_or, take-length}
 use Rattle.std.proofs.Common.{w8, sum_by}
 use Rattle.std.proofs.lemmas.List.Sums.{sum_by_more}
 use Rattle.std.specs.Int.{count_zeros}
 use Rattle.common.specs.Bits.{Bytes, bit_at}
-use Rattle.common.specs.Lists.{count_below}
+use Rattle.common.specs.Lists.{mapi, on_run, count_below}
 use Rattle.common.proofs.Laws.Bits.{bit_is, count_zeros as zeros_counted}
+use Rattle.common.proofs.Laws.Lists.{length_mapi, get_d_mapi}
 use Rattle.common.proofs.Laws.Parts.{part_length, part_at, part_bytes}
 use Rattle.common.proofs.Laws.Places.{count_none, count_cong, count_add}
+use borrow.Author.Tests.{le-leb, lt-ltb}
 use Rattle.book.specs.Book.{is_read, count_read, used_part}
 
 -- ---- a scene
@@ -58,12 +60,25 @@ module _ (array : List ℕ) (sector : ℕ) (fits : sector + 512 ≤ length array
   unfolding used_part
   used_bytes = part_bytes array sector 512 fits
 
+  -- a copy of them over any 512 bytes
+  pub used_copied : (old : List ℕ) → length old ≡ 512 → mapi (on_run 0 512 (λ k x. get_or array (sector + (k - 0)) 0)) old ≡ used_part array sector
+  used_copied old long =
+      let copied = length_mapi (on_run 0 512 (λ k x. get_or array (sector + (k - 0)) 0)) old ∙ long in
+      ext_get_or 0 (mapi (on_run 0 512 (λ k x. get_or array (sector + (k - 0)) 0)) old) (used_part array sector) (copied ∙ sym used_length_lem)
+      (λ k h. let l : k < 512 = omega (arith, copied) in
+      let here : k - 0 ≡ k = omega arith in
+      get_d_mapi (on_run 0 512 (λ k x. get_or array (sector + (k - 0)) 0)) old k 0 (omega (arith, long))
+      ∙ rw (le-leb 0 k (omega arith), lt-ltb k 512 l, here) (sym (used_at k l)))
+
 -- as a slice of the array
 pub used_sliced : (array : List ℕ) (sector : ℕ) → take (sector + 512 - sector) (drop sector array) ≡ used_part array sector
 unfolding used_part
 used_sliced array sector = let long : sector + 512 - sector ≡ 512 = omega arith in rw long refl
 
 -- ---- how many are read
+
+pub count_start : (array : List ℕ) (sector : ℕ) → count_below (is_read array sector) 0 ≡ 0
+count_start array sector = count_none (is_read array sector) 0 (λ i h. absurd (omega arith))
 
 -- with byte i of a book, the scenes of one byte more
 pub count_byte : (array : List ℕ) (sector i : ℕ) → get_or array (sector + i) 0 < 256
@@ -76,7 +91,7 @@ count_byte array sector i h =
     ∙ zeros_counted 8 (get_or array (sector + i) 0) h)
 
 zeros_below : (bytes : List ℕ) → Bytes bytes → (i : ℕ) → i ≤ length bytes → sum_by (count_zeros w8) (take i bytes) ≡ count_below (is_read bytes 0) (i * 8)
-zeros_below bytes small zero h = sym (count_none (is_read bytes 0) 0 (λ i h. absurd (omega arith)))
+zeros_below bytes small zero h = sym (count_start bytes 0)
 zeros_below bytes small (suc i) h =
     rw (← add-one i) (sum_by_more (count_zeros w8) bytes i 0 (omega arith))
     ∙ ap (λ (n : ℕ). n + count_zeros w8 (get_or bytes i 0)) (zeros_below bytes small i (omega arith))

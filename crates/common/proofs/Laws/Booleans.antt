@@ -19,6 +19,9 @@ pub and_off : (a b : Bool) → a && b ≡ false → a ≡ true → b ≡ false
 and_off true b e h = e
 and_off false b e h = absurd (false≢true h)
 
+pub and_on : (a b : Bool) → a ≡ true → a && b ≡ b
+and_on a b h = rw h refl
+
 pub and_none : (a b : Bool) → a ≡ false → a && b ≡ false
 and_none a b h = rw h refl
 

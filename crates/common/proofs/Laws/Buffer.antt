@@ -1,17 +1,22 @@
 -- The laws of `written` and `Put`: bytes laid into a buffer one after another, and what a loop that lays them has left to do.
 -- Assumes nothing.
 use mathlib.Core.Path.{◌≡◌, refl, sym, ap, ◌∙◌}
-use mathlib.Core.List.{List, [], ◌++◌, append_assoc}
-use Prim.Native.Nat.{ℕ, ◌+◌, ◌≤◌}
+use mathlib.Core.List.{List, [], ◌∷◌, ◌++◌, append_assoc}
+use Prim.Native.Nat.{ℕ, ◌+◌, ◌≤◌, ◌<◌}
 use native.Mathlib.Nat.{add-zero, zero-add}
+use native.Mathlib.Numerals.{add-one}
 use native.Mathlib.Omega.{arith}
-use lib.ListN.{length, take, drop, length-append, length-take, length-drop, take-append-drop}
-use lib.Seq.{take-append_seam, take_at, length-take-le, drop-append-add, drop-drop}
+use lib.ListN.{length, take, drop, set, length-append, length-take, length-drop, take-append-drop, drop_of_length-le, get_or}
+use lib.Seq.{set_split, take-append_seam, take_at, length-take-le, drop-append-add, drop-drop, drop-cons}
 use Rattle.common.specs.Buffer.{written, Put}
 
 written_nil : (at : ℕ) (buffer : List ℕ) → written at [] buffer ≡ buffer
 unfolding written
 written_nil at buffer = ap (λ (k : ℕ). take at buffer ++ drop k buffer) (add-zero at) ∙ take-append-drop at buffer
+
+written_one : (at x : ℕ) (buffer : List ℕ) → at < length buffer → written at (x ∷ []) buffer ≡ set buffer at x
+unfolding written
+written_one at x buffer h = ap (λ (k : ℕ). take at buffer ++ (x ∷ drop k buffer)) (add-one at) ∙ sym (set_split buffer at x h)
 
 pub written_front : (bytes buffer : List ℕ) → written 0 bytes buffer ≡ bytes ++ drop (length bytes) buffer
 unfolding written
@@ -43,6 +48,9 @@ written_append at xs ys buffer h =
 
 pub put_none : (at : ℕ) (buffer : List ℕ) → Put at [] buffer buffer at
 put_none at buffer = record { behind = omega arith; stored = sym (written_nil at buffer) }
+
+put_one : (at x : ℕ) (buffer : List ℕ) → at < length buffer → Put at (x ∷ []) buffer (set buffer at x) (at + 1)
+put_one at x buffer h = record { behind = omega arith; stored = sym (written_one at x buffer h) }
 
 -- what was laid at the front lies within the buffer
 pub front_within : {bytes before after : List ℕ} {next : ℕ} → Put 0 bytes before after next → next ≤ length after
@@ -91,3 +99,17 @@ left_last l p = record { behind = p.behind ∙ l.ends; stored = p.stored ∙ l.s
 -- nothing is left
 pub left_none : {at at₀ : ℕ} {buffer all buffer₀ : List ℕ} → Left at [] buffer at₀ all buffer₀ → Put at₀ all buffer₀ buffer at
 left_none {at} {at₀} {buffer} l = left_last l (put_none at buffer)
+
+-- a loop that copies byte by byte, at its turn i
+module _ {next i at : ℕ} {bytes buffer buffer₀ : List ℕ} (l : Left next (drop i bytes) buffer at bytes buffer₀) where
+  byte_left : i < length bytes → Left next ((get_or bytes i 0 ∷ []) ++ drop (i + 1) bytes) buffer at bytes buffer₀
+  byte_left h = rw (add-one i) (rw (drop-cons bytes i 0 h) at l)
+
+  pub byte_room : i < length bytes → next < length buffer
+  byte_room h = omega (arith, left_room (get_or bytes i 0 ∷ []) (drop (i + 1) bytes) (byte_left h))
+
+  pub byte_turn : i < length bytes → Left (next + 1) (drop (i + 1) bytes) (set buffer next (get_or bytes i 0)) at bytes buffer₀
+  byte_turn h = left_turn (get_or bytes i 0 ∷ []) (drop (i + 1) bytes) (byte_left h) (put_one next (get_or bytes i 0) buffer (byte_room h))
+
+  pub byte_last : length bytes ≤ i → Put at bytes buffer₀ buffer next
+  byte_last h = left_none (rw (drop_of_length-le bytes h) at l)

@@ -1,15 +1,17 @@
 -- A call's refusals: number 0 means that none of the conditions holds, and another number is "given exactly when" its own condition holds and no
 -- earlier one does. Names: `clear` is none, `given` one, `first` the number that `first_of` finds.
 -- Assumes nothing.
-use mathlib.Core.Path.{◌≡◌, refl}
+use mathlib.Core.Path.{◌≡◌, refl, sym, ap, ◌∙◌}
 use mathlib.Core.Bool.{Bool, true, false, cond, ◌||◌}
 use mathlib.Core.List.{List, [], ◌∷◌, ◌++◌}
 use mathlib.Core.Logic.{◌⊎◌, inl, inr}
 use Prim.Native.Nat.{ℕ, ◌<◌}
 use native.Mathlib.Omega.{arith}
 use lib.Dec.{ltb, eqb}
+use lib.ListN.{get_or}
 use borrow.Author.Tests.{eqb-true, eqb-false, ltb-true}
 use Rattle.common.specs.declared.refusals.Refusal.{Refusal}
+use Rattle.common.specs.declared.refusals.Refusal.TheVariants.{StateNotSound, WrongArray, WrongFrame, WrongOutput, WrongMask, WrongRegion, NotAtRest, WantedRises, StatusLocked, BufferTooShort, ScriptTooLong, UnknownMark, WrongLength, CutShort, WrongBook, WrongNames, NameTwice, RecordsTooLong}
 use Rattle.common.specs.Refusals.{first_of, number_of, Exactly}
 use Rattle.common.proofs.Laws.Booleans.{or_none_l, or_none_r}
 use Rattle.common.proofs.Laws.Choice.{cases}
@@ -17,6 +19,39 @@ use Rattle.common.proofs.Laws.Choice.{cases}
 -- a refusal's number is above 0
 pub number_some : (refusal : Refusal) → 0 < number_of refusal
 number_some refusal = grind arith
+
+-- each refusal at its number, with the first in the places 0, 16 and 17, which are no refusal's
+abbrev by_number : List Refusal
+by_number =
+    StateNotSound
+    ∷ StateNotSound
+    ∷ WrongArray
+    ∷ WrongFrame
+    ∷ WrongOutput
+    ∷ WrongMask
+    ∷ WrongRegion
+    ∷ NotAtRest
+    ∷ WantedRises
+    ∷ StatusLocked
+    ∷ BufferTooShort
+    ∷ ScriptTooLong
+    ∷ UnknownMark
+    ∷ WrongLength
+    ∷ CutShort
+    ∷ WrongBook
+    ∷ StateNotSound
+    ∷ StateNotSound
+    ∷ WrongNames
+    ∷ NameTwice
+    ∷ RecordsTooLong
+    ∷ []
+
+numbered : (refusal : Refusal) → get_or by_number (number_of refusal) StateNotSound ≡ refusal
+numbered refusal = grind arith
+
+-- and no two refusals have one number
+pub number_determines : (a b : Refusal) → number_of a ≡ number_of b → a ≡ b
+number_determines a b e = sym (numbered a) ∙ ap (λ (n : ℕ). get_or by_number n StateNotSound) e ∙ numbered b
 
 -- ---- none of them holds
 

@@ -1,13 +1,11 @@
 -- `flags::move_back` meets its contract: a refusal, or the planner's answer for an erased book with the scenes marked that the records name.
-use mathlib.Core.Path.{◌≡◌, refl, sym, ap, ◌∙◌}
+use mathlib.Core.Path.{sym, ap, ◌∙◌}
 use mathlib.Core.Bool.{false}
-use mathlib.Core.List.{[]}
-use native.Mathlib.Omega.{arith}
 use lib.ListN.{length}
 use Rattle.common.proofs.Laws.Refusals.{number_some}
 use Rattle.names.specs.Records.{padded}
-use Rattle.sectors.proofs.Laws.Images.{sector_long, laid_over}
-use Rattle.sectors.proofs.Laws.Back.{blank_bytes, back_book_long, back_is}
+use Rattle.sectors.proofs.Laws.Images.{sector_long}
+use Rattle.sectors.proofs.Laws.Back.{blank_bytes, back_is}
 use Rattle.namechecks.proofs.Laws.Opened.{back_refusal_of, list_opened, names_fit}
 use Rattle.flags.proofs.Laws.Answers.{returns_none, returns_planned}
 use Rattle.flags.proofs.move_back.Goals as goal
@@ -31,8 +29,7 @@ mark_listed-unlisted-requires c =
 pub returns : goal.returns
 returns c =
     let used_is = rw (c.sector_at.ensures, c.in-Ok.ensures.read) at c.mark_listed-unlisted.ensures.0 in
-    let used_long : length c.mark_listed-unlisted.new.used ≡ 512 = ap length used_is ∙ back_book_long _ _ in
-    let laid = laid_over [] [] _ _ _ _ _ refl c.blank-wanted.ensures (omega arith) (omega (arith, used_long)) c.put.ensures ∙ ap padded used_is ∙ sym (back_is _ _) in
+    let laid = ap padded used_is ∙ sym (back_is _ _) in
     rw c.return_of-2.ensures
     (returns_planned _ _ _ _ _ _ _ _ _ _ (back_refusal_of _ _ _ _ _ ∙ sym c.in-Ok.ensures.number)
-    (rw laid at c.plan_update-planned.ensures) (rw (c.sector_at.ensures, c.in-Ok.ensures.read) at c.mark_listed-unlisted.ensures.1))
+    (rw laid at c.plan_book.ensures) (rw (c.sector_at.ensures, c.in-Ok.ensures.read) at c.mark_listed-unlisted.ensures.1))

@@ -3,7 +3,7 @@
 use mathlib.Core.Path.{◌≡◌, refl, sym, ap, ◌∙◌}
 use mathlib.Core.Bool.{true, false}
 use mathlib.Core.List.{List, [], ◌∷◌, ◌++◌, append_assoc}
-use Prim.Native.Nat.{ℕ, zero, suc, ◌≤◌, ◌<◌}
+use Prim.Native.Nat.{ℕ, zero, suc, ◌+◌, ◌≤◌, ◌<◌}
 use native.Mathlib.Nat.{le_refl}
 use native.Mathlib.Omega.{arith}
 use lib.Dec.{leb, ltb}
@@ -81,6 +81,9 @@ pub entries_first : (name : List ℕ) (ns : List (List ℕ)) → entries_bytes (
 unfolding entries_bytes
 entries_first name ns = refl
 
+pub entries_length : (name : List ℕ) (ns : List (List ℕ)) → length (entries_bytes (name ∷ ns)) ≡ 1 + length name + length (entries_bytes ns)
+entries_length name ns = omega (arith, ap length (entries_first name ns), length-append name (entries_bytes ns))
+
 pub entries_append : (ms ns : List (List ℕ)) → entries_bytes (ms ++ ns) ≡ entries_bytes ms ++ entries_bytes ns
 unfolding entries_bytes
 entries_append [] ns = refl
@@ -152,6 +155,17 @@ listing_good bytes ns l = rw (listing_names bytes ns l) l
 -- a good list has the names that are read from it
 pub good_names : (bytes : List ℕ) → Good bytes → listed bytes ≡ names (names_in (listed bytes))
 good_names bytes good = (listed_exactly bytes (names_in (listed bytes))).only_when good
+
+pub good_count : (bytes : List ℕ) → Good bytes → count_in (listed bytes) ≡ length (names_in (listed bytes))
+good_count bytes good = ap count_in (good_names bytes good)
+
+-- and at most 4,096 of them
+pub counted_good : (bytes : List ℕ) → count_in (listed bytes) ≤ 4096 → Good bytes
+counted_good bytes h = by (listed bytes) refl h
+  where
+    by : (l : Listed) → listed bytes ≡ l → count_in l ≤ 4096 → Listing bytes (names_in l)
+    by bad e h = absurd (omega arith)
+    by (names ns) e h = (listed_exactly bytes ns).when e
 
 -- the lists that are not bad are the good ones
 pub good_exactly : (bytes : List ℕ) → Exactly (is_bad (listed bytes) ≡ false) (Good bytes)

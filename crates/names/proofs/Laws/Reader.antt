@@ -1,13 +1,15 @@
 -- What the reader of a record finds: the laws of `all_name`, `is_name` and `front` by the tests of the code.
 -- Assumes nothing.
 use mathlib.Core.Path.{◌≡◌, refl, sym, ap, ◌∙◌}
-use mathlib.Core.Bool.{Bool, true, false, cond, ◌&&◌, and-false, and-true}
+use mathlib.Core.Bool.{Bool, true, false, cond, ◌&&◌, ◌||◌, and-false, and-true}
 use mathlib.Core.List.{List, [], ◌∷◌}
 use Prim.Native.Nat.{ℕ, ◌+◌, ◌-◌, ◌≤◌, ◌<◌}
 use native.Mathlib.Omega.{arith}
-use lib.Dec.{eqb}
+use lib.Dec.{eqb, ltb}
 use lib.ListN.{length, get_or, take, drop, length-drop}
-use borrow.Author.Tests.{le-leb, eq-eqb, ne_eqb}
+use borrow.Author.Tests.{ltb-true, ltb-false, le-leb, lt-leb, eq-eqb, ne_eqb}
+use Rattle.common.proofs.Laws.Booleans.{or_none_l, or_none_r, or_imp}
+use Rattle.common.proofs.Laws.Choice.{cases}
 use Rattle.std.specs.Prelude.{None}
 use Rattle.std.specs.Bool.{then_some}
 use Rattle.std.specs.List.{slice_range}
@@ -47,6 +49,23 @@ pub all_none : (bytes : List ℕ) → length bytes ≡ 0 → all_name bytes ≡ 
 unfolding all_name
 all_none [] h = refl
 all_none (x ∷ bytes) h = absurd (omega arith)
+
+-- ---- a name
+
+module _ (bytes : List ℕ) where
+  pub name_sized : ltb (length bytes) 1 || ltb 32 (length bytes) ≡ false → is_name bytes ≡ all_name bytes
+  unfolding is_name
+  name_sized h =
+      let least : 1 ≤ length bytes = ltb-false (length bytes) 1 (or_none_l (ltb (length bytes) 1) (ltb 32 (length bytes)) h) in
+      let most : length bytes ≤ 32 = ltb-false 32 (length bytes) (or_none_r (ltb (length bytes) 1) (ltb 32 (length bytes)) h) in
+      rw (le-leb 1 (length bytes) least, le-leb (length bytes) 32 most) refl
+
+  pub name_not_sized : ltb (length bytes) 1 || ltb 32 (length bytes) ≡ true → is_name bytes ≡ false
+  unfolding is_name
+  name_not_sized h =
+      cases (ltb (length bytes) 1) (λ empty. rw (lt-leb 1 (length bytes) (ltb-true (length bytes) 1 empty)) refl)
+      (λ some. let over = ltb-true 32 (length bytes) (or_imp (ltb (length bytes) 1) (ltb 32 (length bytes)) h some) in
+      rw (le-leb 1 (length bytes) (ltb-false (length bytes) 1 some), lt-leb (length bytes) 32 over) refl)
 
 -- ---- a record, from its front
 

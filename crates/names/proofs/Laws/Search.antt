@@ -6,8 +6,9 @@ use mathlib.Core.List.{List, [], ◌∷◌, ◌++◌}
 use Prim.Native.Nat.{ℕ, zero, suc, ◌<◌}
 use native.Mathlib.Omega.{arith}
 use lib.Dec.{eqb}
-use lib.ListN.{length, get_or}
+use lib.ListN.{length, get_or, take}
 use lib.Pointwise.{pointwise}
+use Rattle.std.specs.List.{list_all, zip}
 use borrow.Author.Tests.{eq-eqb, eqb-true}
 use Rattle.common.specs.Refusals.{Exactly}
 use Rattle.common.proofs.Laws.Booleans.{and_l, and_r, and_i, or_imp, or_true}
@@ -23,6 +24,14 @@ same_pointwise [] [] = refl
 same_pointwise [] (y ∷ ys) = refl
 same_pointwise (x ∷ xs) [] = refl
 same_pointwise (x ∷ xs) (y ∷ ys) = ap (λ (t : Bool). eqb x y && t) (same_pointwise xs ys)
+
+-- and by a search among the places of both, once they are known to be as long
+pub same_zip : (xs ys : List ℕ) → length xs ≡ length ys → list_all (λ p. eqb p.0 p.1) (zip xs ys) ≡ same_bytes xs ys
+unfolding same_bytes
+same_zip [] [] e = refl
+same_zip [] (y ∷ ys) e = absurd (omega (arith, e))
+same_zip (x ∷ xs) [] e = absurd (omega (arith, e))
+same_zip (x ∷ xs) (y ∷ ys) e = ap (λ (t : Bool). eqb x y && t) (same_zip xs ys (omega (arith, e)))
 
 pub same_refl : (xs : List ℕ) → same_bytes xs xs ≡ true
 unfolding same_bytes
@@ -47,11 +56,31 @@ differ_exactly xs ys = record {
   only_when = λ h. cases (same_bytes xs ys) (λ t. absurd (h (same_equal xs ys t))) (λ f. f);
 }
 
+take_taken : (n : ℕ) (xs : List ℕ) → take (length (take n xs)) xs ≡ take n xs
+take_taken zero xs = refl
+take_taken (suc n) [] = refl
+take_taken (suc n) (x ∷ xs) = ap (λ (l : List ℕ). x ∷ l) (take_taken n xs)
+
+-- and where their fronts do
+pub differ_front : (n : ℕ) (xs ys : List ℕ) → pointwise eqb (take n xs) (take (length (take n xs)) ys) ≡ false → false ≡ same_bytes xs ys
+differ_front n xs ys f =
+    sym ((differ_exactly xs ys).only_when
+    (λ e. true≢false (sym (ap (pointwise eqb (take n xs)) (ap (take (length (take n xs))) (sym e) ∙ take_taken n xs) ∙ same_pointwise (take n xs) (take n xs) ∙ same_refl (take n xs)) ∙ f)))
+
 pub same_sym : (xs ys : List ℕ) → same_bytes xs ys ≡ same_bytes ys xs
 same_sym xs ys =
     cases (same_bytes ys xs)
     (λ t. (same_exactly xs ys).only_when (sym ((same_exactly ys xs).when t)) ∙ sym t)
     (λ f. (differ_exactly xs ys).only_when (λ e. (differ_exactly ys xs).when f (sym e)) ∙ sym f)
+
+module _ (xs ys : List ℕ) where
+  -- of other lengths they differ
+  pub differ_long : (length xs ≡ length ys → ⊥) → false ≡ same_bytes xs ys
+  differ_long h = sym ((differ_exactly xs ys).only_when (λ e. h (ap length e)))
+
+  -- and where a byte does
+  pub differ_at : (i : ℕ) → (get_or xs i 0 ≡ get_or ys i 0 → ⊥) → false ≡ same_bytes xs ys
+  differ_at i h = sym ((differ_exactly xs ys).only_when (λ e. h (ap (λ (l : List ℕ). get_or l i 0) e)))
 
 -- ---- a name on a list
 

@@ -96,6 +96,10 @@ pub same_from_four : (c : Command) → NoRead c → NoTurns c → (count : ℕ) 
 same_from_four c no_read no_turns count s m i l h =
     let four : min 4 count ≡ 4 = omega (arith, l, h) in rw four (settled s c m no_read no_turns i (omega (arith, l, h)))
 
+-- all of them are looked at
+pub same_from_end : (c : Command) (count : ℕ) → SameFrom c count count
+same_from_end c count s m i l h = absurd (omega (arith, l, h))
+
 -- ---- a slice laid to its end
 
 -- byte by byte up to a place, and the rest, which is the same, in a run

@@ -113,3 +113,14 @@ module _ (d : ℕ → Bool) (n a : ℕ) where
       ⊎_elim
       (λ p. absurd (never d (a + through_last d n a - 1) (last_true d n a p) (b (a + through_last d n a - 1) (omega arith) (omega arith))))
       (λ p. omega arith) (split 0 (through_last d n a))
+
+-- a search up or down: one address more that does not change
+pub below_more : (d : ℕ → Bool) (from address : ℕ) → ((k : ℕ) → from ≤ k → k < address → d k ≡ false) → d address ≡ false
+    → (k : ℕ) → from ≤ k → k < address + 1 → d k ≡ false
+below_more d from address h e k i l =
+    cases (eqb address k) (λ q. ap d (sym (eqb-true address k q)) ∙ e) (λ q. h k i (omega (arith, eqb-false address k q)))
+
+pub above_more : (d : ℕ → Bool) (to address : ℕ) → ((k : ℕ) → address ≤ k → k < to → d k ≡ false) → d (address - 1) ≡ false
+    → (k : ℕ) → address - 1 ≤ k → k < to → d k ≡ false
+above_more d to address h e k i l =
+    cases (eqb (address - 1) k) (λ q. ap d (sym (eqb-true (address - 1) k q)) ∙ e) (λ q. h k (omega (arith, eqb-false (address - 1) k q)) l)

@@ -1,15 +1,17 @@
 -- The refusals of a plan: each number exactly when 01 says, and what an accepted plan is.
 -- Assumes nothing.
-use mathlib.Core.Path.{◌≡◌, refl, ◌∙◌}
+use mathlib.Core.Path.{◌≡◌, refl, sym, ap, ◌∙◌}
 use mathlib.Core.Bool.{Bool, true, false, not, ◌&&◌, ◌||◌}
 use mathlib.Core.List.{List, [], ◌∷◌}
-use Prim.Native.Nat.{ℕ, ◌+◌, ◌<◌}
+use mathlib.Core.Logic.{⊎_elim}
+use Prim.Native.Nat.{ℕ, ◌+◌, ◌-◌, ◌≤◌, ◌<◌}
 use native.Mathlib.Omega.{arith}
 use lib.Dec.{ltb, eqb}
 use lib.ListN.{length}
 use borrow.Author.Tests.{lt-ltb, le-ltb, eq-eqb, ltb-true, ltb-false, eqb-true, not-false}
 use Rattle.common.specs.Refusals.{status_locked, buffer_too_short, first_of, Exactly}
-use Rattle.common.proofs.Laws.Booleans.{or_none_l, or_none_r}
+use Rattle.common.proofs.Laws.Booleans.{or_none_l, or_none_r, or_true}
+use Rattle.common.proofs.Laws.Lists.{split}
 use Rattle.common.proofs.Laws.Refusals.{Clear, clear, first_of_clear, Given, given_exactly, first_behind, first_before}
 use Rattle.script.specs.Record.{encode}
 use Rattle.state.specs.declared.State.{State}
@@ -20,6 +22,20 @@ use Rattle.region.specs.Region.{Inside}
 use Rattle.plan.specs.Plan.{step_one_needed, plan_records}
 use Rattle.plan.specs.Refusals.{is_active, is_locked, bytes_needed, region_refusals, script_refusals, plan_refusals, plan_refusal, RegionAccepted, Accepted}
 use Rattle.common.specs.Limits.{longest_wanted}
+
+-- ---- refusal 6, without the sum
+
+pub region_out : (size start n : ℕ) → size < start → true ≡ (ltb longest_wanted n || ltb size (start + n))
+region_out size start n h = rw (lt-ltb size (start + n) (omega arith)) (sym (or_true (ltb longest_wanted n)))
+
+pub region_in : (size start n : ℕ) → start ≤ size → (ltb longest_wanted n || ltb (size - start) n) ≡ (ltb longest_wanted n || ltb size (start + n))
+region_in size start n h = ap (λ (t : Bool). ltb longest_wanted n || t) (⊎_elim (λ l. above l) (λ l. below l) (split (size - start) n))
+  where
+    above : size - start < n → ltb (size - start) n ≡ ltb size (start + n)
+    above l = lt-ltb (size - start) n l ∙ sym (lt-ltb size (start + n) (omega arith))
+
+    below : n ≤ size - start → ltb (size - start) n ≡ ltb size (start + n)
+    below l = le-ltb (size - start) n l ∙ sym (le-ltb size (start + n) (omega arith))
 
 module _ (s : State) (array : List ℕ) (start : ℕ) (wanted : List ℕ) where
   region_clear : first_of (region_refusals s array start wanted) ≡ 0 → Clear (region_refusals s array start wanted)

@@ -1,11 +1,11 @@
 -- The steps of a plan: where step 1 is needed, what steps 1 and 4 add, and what step 2 or 3 is by the chip, how long, and where it is nothing.
 -- Assumes nothing.
 use mathlib.Core.Path.{◌≡◌, refl, sym, ◌∙◌}
-use mathlib.Core.Bool.{Bool, true, false, cond, not}
+use mathlib.Core.Bool.{Bool, true, false, cond, not, ◌&&◌}
 use mathlib.Core.List.{List, [], ◌∷◌, ◌++◌, append-nil}
 use Prim.Native.Nat.{ℕ, ◌+◌, ◌-◌, ◌*◌, ◌/◌, ◌≤◌, ◌<◌}
 use native.Mathlib.Omega.{arith}
-use lib.Dec.{ltb, eqb}
+use lib.Dec.{leb, ltb, eqb}
 use lib.ListN.{length, get_or, take, drop, length-drop}
 use lib.Pointwise.{pointwise}
 use lib.Seq.{length-take-le}
@@ -33,6 +33,11 @@ use Rattle.pages.proofs.Laws.Pages.{pages_step_fits, pages_step_none, pages_step
 use Rattle.pages.proofs.Laws.Region.{pages_step_most}
 use Rattle.pages.proofs.Laws.Fewer.{pages_no_longer}
 use Rattle.plan.specs.Plan.{is_protected_change, step_one_needed, status_byte, settle, status_records, status_step, program_step, wait_bytes, with_waits, with_status_steps}
+
+-- whether step 1 is needed for the i-th byte of the region
+pub protected_at : (first : ℕ) (array : List ℕ) (start : ℕ) (wanted : List ℕ) (i : ℕ) → i < length wanted
+    → is_protected_change first array start wanted (start + i) ≡ (not (eqb (get_or array (start + i) 0) (get_or wanted i 0)) && leb first (start + i))
+protected_at first array start wanted i h = rw (changes_at array start wanted i h) refl
 
 -- step 1 is needed where the protected part of the region, from an address on, is not yet as wanted
 module _ (first : ℕ) (array : List ℕ) (start : ℕ) (wanted : List ℕ) (fits : start + length wanted ≤ length array)

@@ -117,6 +117,23 @@ any_none test zero a h = refl
 any_none test (suc n) a h =
     rw (h a (omega arith) (omega arith)) (any_none test n (suc a) (λ address i j. h address (omega arith) (omega arith)))
 
+-- a search over n addresses from a on, at its turn i: the address passes, or it does not, or there is none left
+module _ (test : ℕ → Bool) (n i a : ℕ) where
+  pub any_found : i < n → test (a + i) ≡ true → any_of test (n - i) (a + i) ≡ true
+  unfolding any_of
+  any_found h e = let more : n - i ≡ suc (n - (i + 1)) = omega arith in rw (more, e) refl
+
+  pub any_turn : i < n → test (a + i) ≡ false → any_of test (n - i) (a + i) ≡ any_of test (n - (i + 1)) (a + (i + 1))
+  unfolding any_of
+  any_turn h e =
+      let more : n - i ≡ suc (n - (i + 1)) = omega arith in
+      let next : suc (a + i) ≡ a + (i + 1) = omega arith in
+      rw (more, e) (ap (any_of test (n - (i + 1))) next)
+
+  pub any_end : n ≤ i → any_of test (n - i) (a + i) ≡ false
+  unfolding any_of
+  any_end h = let none : n - i ≡ 0 = omega arith in rw none refl
+
 -- a search through pairs, and through n addresses from a on, by what their places have
 pub any_pair : (test : ℕ × ℕ → Bool) (d : ℕ → Bool) (old new : List ℕ) (a : ℕ) → length old ≡ length new
     → ((i : ℕ) → i < length new → d (a + i) ≡ test (get_or old i 0, get_or new i 0)) → list_any test (zip old new) ≡ any_of d (length new) a

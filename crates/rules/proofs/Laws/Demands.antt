@@ -24,8 +24,8 @@ use Rattle.frame.proofs.Laws.Accepted.{number_accepted, cut_number_accepted}
 use Rattle.frame.proofs.Laws.Determined.{run_frame_determined, run_cut_frame_determined}
 use Rattle.script.specs.Record.{encode, frames_in, microseconds_in}
 use Rattle.script.specs.Survey.{survey_of}
-use Rattle.script.specs.Reader.{record_at, frame_part}
-use Rattle.script.proofs.Laws.Values.{record_at_answered}
+use Rattle.script.specs.Reader.{frame_part, at_offset}
+use Rattle.script.proofs.Laws.Values.{record_at_next, record_at_answered}
 use Rattle.run.specs.declared.Ran.{Ran}
 use Rattle.run.specs.Script.{script_number, script_device, script_line_after, script_count, script_offset, ScriptRun}
 use Rattle.run.proofs.Laws.Script.{run_script_determined}
@@ -238,8 +238,8 @@ salvage_answers sector kept dropped =
 
 read_answers : (script : List ℕ) (offset : ℕ) → One (λ (r : Record). ReadAnswered script offset r)
 read_answers script offset =
-    let found = record_at_answered script offset refl in
-    let made : ReadAnswered script offset (record_of offset (record_at script offset)) = record {
+    let found = record_at_answered script offset {r = at_offset script offset} refl (sym (record_at_next script offset)) in
+    let made : ReadAnswered script offset (record_of (at_offset script offset)) = record {
       answer_is = refl;
       number_is = found.number_is;
       kind_is = found.kind_is;
@@ -248,7 +248,7 @@ read_answers script offset =
       microseconds_are = found.microseconds_are;
       next_is = found.next_is;
     } in
-    record { answer = record_of offset (record_at script offset); given = made; only = λ other p. zeradok_read_determined script offset _ _ p made }
+    record { answer = record_of (at_offset script offset); given = made; only = λ other p. zeradok_read_determined script offset _ _ p made }
 
 answers : EveryCallAnswers
 answers = record {

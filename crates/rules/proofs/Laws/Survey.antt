@@ -17,6 +17,7 @@ use Rattle.script.specs.Decode.{Fault, unknown_mark, wrong_length, cut_short, fa
 use Rattle.script.specs.declared.survey.Surveyed.{Surveyed}
 use Rattle.script.specs.Survey.{survey_refusals, surveyed, survey_of}
 use Rattle.script.proofs.Laws.Decode.{encode_decode}
+use Rattle.script.specs.declared.reader.AtOffset.{AtOffset}
 use Rattle.script.specs.Reader.{refusal_of}
 use Rattle.script.proofs.Laws.Answers.{refusal_number}
 use Rattle.script.proofs.Laws.Bad.{bad_at_read}
@@ -106,6 +107,6 @@ module _ (script : List ℕ) (bytes : Bytes script) where
     first_told = first_told;
     refusal_counts = λ some. rw (survey_refused script (λ z. omega (arith, z, some))) (refl, (refl, refl));
     counts = counts;
-    read_there = λ e. let b = blamed e in rw (b.survey_is, ← refusal_number b.fault) (refused_with (refusal_of b.fault) (bad_at_read script bytes b.short b.decoded));
+    read_there = λ e. let b = blamed e in rw (b.survey_is, ← refusal_number b.fault) (refused_with script b.offset (refusal_of b.fault) (ap (λ (r : AtOffset). r.read) (bad_at_read script bytes b.short b.decoded)));
     then_run = then_run;
   }

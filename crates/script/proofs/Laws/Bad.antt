@@ -14,12 +14,13 @@ use Rattle.common.proofs.Laws.Bits.{bytes_drop}
 use Rattle.script.specs.Record.{Record, AllFit, encode_record, encode, record_length, script_length}
 use Rattle.std.specs.Prelude.{Err}
 use Rattle.script.specs.Decode.{Fault, Front, end, item, malformed, front, Decoded, records, bad_at, followed, decode}
-use Rattle.script.specs.Reader.{refusal_of, answer, record_at}
+use Rattle.script.specs.Reader.{refusal_of, answer, at_offset}
 use Rattle.script.proofs.Laws.Records.{encode_none, encode_front, encoded_record_length, encoded_length}
 use Rattle.script.proofs.Laws.Front.{front_item, malformed_some}
 use Rattle.script.proofs.Laws.Decode.{decode_end, decode_item, decode_malformed}
 use Rattle.script.proofs.Laws.Marks.{decode_bad_behind}
 use Rattle.script.proofs.Laws.Reader.{record_at_inside}
+use Rattle.script.proofs.Laws.Values.{refused_here}
 
 -- "the first bad record" begins inside the script, with such a fault, and all bytes before it are those of good records
 pub record FirstBad (script : List ℕ) (fault : Fault) (offset : ℕ) : Type 0 where
@@ -105,8 +106,9 @@ bad_at_first script {fault} {offset} bytes = record { when = λ e. first e bytes
         let long : script_length b.list ≡ offset = sym (encoded_length b.list) ∙ ap length (sym b.before) ∙ length-take-le offset script (omega (arith, b.inside)) in
         ap decode (sym whole) ∙ decode_bad_behind b.list (drop offset script) b.fit b.here ∙ ap (bad_at fault) long
 
--- the reader at that offset gives the same refusal
+-- the reader at that offset gives the same refusal and the same offset
 pub bad_at_read : (script : List ℕ) {fault : Fault} {offset : ℕ} → Bytes script → length script ≤ longest_script → decode script ≡ bad_at fault offset
-    → record_at script offset ≡ Err (refusal_of fault)
+    → at_offset script offset ≡ record { read = Err (refusal_of fault); next = offset }
 bad_at_read script {fault} {offset} bytes short e =
-    let b = (bad_at_first script bytes).when e in record_at_inside script offset short (omega (arith, b.inside)) ∙ ap (answer offset) b.here
+    let b = (bad_at_first script bytes).when e in
+    refused_here script offset (record_at_inside script offset short (omega (arith, b.inside)) ∙ ap (answer offset) b.here)

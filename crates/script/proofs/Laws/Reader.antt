@@ -1,6 +1,6 @@
 -- The laws of `record_at`: its answer by the tests on the script and the offset, in the order of 01.
 -- Assumes nothing.
-use mathlib.Core.Path.{◌≡◌, refl, sym, ap, ◌∙◌}
+use mathlib.Core.Path.{◌≡◌, refl, sym, ap, ap₂, ◌∙◌}
 use mathlib.Core.Bool.{true, false, ◌||◌}
 use mathlib.Core.List.{List}
 use Prim.Native.Nat.{ℕ, ◌+◌, ◌≤◌, ◌<◌}
@@ -15,7 +15,8 @@ use Rattle.std.specs.Prelude.{Some, Ok, Err}
 use Rattle.common.specs.declared.refusals.Refusal.TheVariants.{ScriptTooLong, WrongLength, CutShort}
 use Rattle.script.specs.Decode.{front_frame, front_wait, front}
 use Rattle.script.specs.Answers.{Read}
-use Rattle.script.specs.Reader.{two_bytes_at, four_bytes_at, answer, record_at, frame_part}
+use Rattle.script.specs.declared.reader.AtOffset.{AtOffset}
+use Rattle.script.specs.Reader.{two_bytes_at, four_bytes_at, answer, record_at, frame_part, at_offset, Answered}
 use Rattle.script.specs.declared.reader.Found.TheVariants.{Frame, Wait}
 use Rattle.script.proofs.Laws.Front.{body_wrong, body_short, body_whole}
 use Rattle.script.proofs.Laws.Places.{frame_front_at, frame_front_short, wait_front_at, wait_front_short}
@@ -64,9 +65,13 @@ wait_cut_short s offset at few = ap (answer offset) (wait_front_short (drop at s
 pub wait_whole : (s : List ℕ) (offset at : ℕ) → at + 4 ≤ length s → answer offset (front_wait (drop at s)) ≡ Ok (Some (Wait (four_bytes_at s at) (offset + 6)))
 wait_whole s offset at enough = ap (answer offset) (wait_front_at s at enough)
 
+-- what the promise leaves of an answer is the whole of it
+pub answered_is : {script : List ℕ} {offset : ℕ} {r : AtOffset} → Answered script offset r → r ≡ at_offset script offset
+answered_is a = ap₂ (λ (read : Read) (next : ℕ). record { read = read; next = next }) a.answer_is a.next_is
+
 -- two results of a call are equal
-pub record_at_determined : (script : List ℕ) (offset : ℕ) (a b : Read) → a ≡ record_at script offset → b ≡ record_at script offset → a ≡ b
-record_at_determined script offset a b e f = e ∙ sym f
+pub record_at_determined : (script : List ℕ) (offset : ℕ) (a b : AtOffset) → Answered script offset a → Answered script offset b → a ≡ b
+record_at_determined script offset a b p q = answered_is p ∙ sym (answered_is q)
 
 pub frame_part_determined : (script : List ℕ) (offset : ℕ) (a b : List ℕ) → a ≡ frame_part script offset → b ≡ frame_part script offset → a ≡ b
 frame_part_determined script offset a b e f = e ∙ sym f

@@ -3,7 +3,7 @@
 use mathlib.Core.Path.{◌≡◌, refl, sym, ap, ◌∙◌}
 use mathlib.Core.List.{List, [], ◌∷◌}
 use Prim.Native.Nat.{ℕ, ◌+◌, ◌*◌, ◌≤◌, ◌<◌}
-use native.Mathlib.Nat.{add-zero, add_assoc}
+use native.Mathlib.Nat.{zero-add, add-zero, add_assoc}
 use native.Mathlib.Omega.{arith}
 use lib.Dec.{ltb}
 use lib.ListN.{length, take, drop}
@@ -108,6 +108,11 @@ counted_from at frames microseconds output (records rs) =
     Ok (record { frames = frames + frames_in rs; microseconds = microseconds + microseconds_in rs; output = output + output_length rs })
 counted_from at frames microseconds output (bad_at fault offset) = Err (record { refusal = refusal_of fault; offset = at + offset })
 
+-- nothing is counted at the start
+counted_start : (d : Decoded) → counted_from 0 0 0 0 d ≡ counted d
+counted_start (records rs) = simp zero-add
+counted_start (bad_at fault offset) = simp zero-add
+
 -- a frame of n bytes is counted
 counted_frame : (at f m o n next : ℕ) (bytes : List ℕ) (d : Decoded) → length bytes ≡ n → next ≡ at + record_length (frame bytes)
     → counted_from at f m o (followed (frame bytes) d) ≡ counted_from next (f + 1) m (o + n) d
@@ -130,6 +135,16 @@ pub record Counted (script : List ℕ) (at frames microseconds output : ℕ) : T
   pub microseconds_few : microseconds ≤ at * 4294967295
   pub output_few : output ≤ at
   pub left : counted_from at frames microseconds output (decode (drop at script)) ≡ counted (decode script)
+
+pub count_start : (script : List ℕ) → length script ≤ longest_script → Counted script 0 0 0 0
+count_start script short = record {
+  short = short;
+  inside = omega arith;
+  frames_few = omega arith;
+  microseconds_few = omega arith;
+  output_few = omega arith;
+  left = counted_start (decode script);
+}
 
 pub count_frame : {script : List ℕ} {at start n next f m o : ℕ} → FrameTold script at start n next → Counted script at f m o
     → Counted script next (f + 1) m (o + n)

@@ -1,6 +1,6 @@
 -- The values of the reader's answer: each is what stands at the offset, and where it is no frame the part is empty.
 -- Assumes nothing.
-use mathlib.Core.Path.{◌≡◌, refl, sym, ap, ◌∙◌}
+use mathlib.Core.Path.{◌≡◌, refl, sym, ap, ap₂, ◌∙◌}
 use mathlib.Core.Bool.{Bool, true, false, cond}
 use mathlib.Core.List.{List, []}
 use Prim.Native.Nat.{ℕ, ◌≤◌}
@@ -9,7 +9,7 @@ use lib.Dec.{ltb}
 use lib.ListN.{length, drop}
 use borrow.Author.Tests.{le-ltb}
 use Rattle.common.specs.Limits.{longest_script}
-use Rattle.std.specs.Prelude.{Err}
+use Rattle.std.specs.Prelude.{Some, None, Ok, Err}
 use Rattle.common.specs.Refusals
 use Rattle.common.specs.declared.refusals.Refusal.{Refusal}
 use Rattle.common.specs.declared.refusals.Refusal.TheVariants.{ScriptTooLong}
@@ -17,7 +17,9 @@ use Rattle.common.proofs.Laws.Choice.{cond_elim, no}
 use Rattle.script.specs.Record.{frame, wait}
 use Rattle.script.specs.Decode.{cut_short, Fault, Front, end, item, malformed, front}
 use Rattle.script.specs.Answers.{Read, case_of, number_of, next_of, microseconds_of, start_of, length_of, part_of}
-use Rattle.script.specs.Reader.{refusal_of, read_in_order, answer, record_at, front_kind, reader_kind, front_number, reader_number, front_next, reader_next, front_microseconds, reader_microseconds, front_start, reader_start, front_length, reader_length, front_part, frame_part, Answered}
+use Rattle.script.specs.declared.reader.Found.TheVariants.{Frame, Wait}
+use Rattle.script.specs.declared.reader.AtOffset.{AtOffset}
+use Rattle.script.specs.Reader.{refusal_of, read_in_order, answer, record_at, front_kind, reader_kind, front_number, reader_number, front_next, reader_next, front_microseconds, reader_microseconds, front_start, reader_start, front_length, reader_length, front_part, frame_part, at_offset, Answered}
 use Rattle.script.proofs.Laws.Answers.{refusal_number, stands, frame_bytes}
 
 module _ (script : List ℕ) (offset : ℕ) where
@@ -67,7 +69,7 @@ module _ (script : List ℕ) (offset : ℕ) where
   unfolding reader_number
   record_at_number = read_value number_of Refusals.number_of front_number (λ _. refl) refl (λ _ _ _. refl) (λ _ _. refl) refusal_number
 
-  record_at_next : next_of offset (record_at script offset) ≡ reader_next script offset
+  pub record_at_next : next_of offset (record_at script offset) ≡ reader_next script offset
   unfolding reader_next
   record_at_next = read_value (next_of offset) (λ _. offset) (front_next offset) (λ _. refl) refl (λ _ _ _. refl) (λ _ _. refl) (λ _. refl)
 
@@ -88,18 +90,42 @@ module _ (script : List ℕ) (offset : ℕ) where
   unfolding reader_length
   record_at_length = read_value length_of (λ _. 0) front_length (λ _. refl) refl (λ _ _ _. refl) (λ _ _. refl) (λ _. refl)
 
-  -- every clause of the reader's promise follows from the first
-  pub record_at_answered : {found : Read} → found ≡ record_at script offset → Answered script offset found
-  record_at_answered e = record {
+  -- every clause of the reader's promise follows from two: what was read, and the next offset of it
+  pub record_at_answered : {r : AtOffset} → r.read ≡ record_at script offset → r.next ≡ next_of offset r.read → Answered script offset r
+  record_at_answered e n = record {
     answer_is = e;
     kind_is = ap case_of e ∙ record_at_kind;
     number_is = ap number_of e ∙ record_at_number;
-    next_is = ap (next_of offset) e ∙ record_at_next;
+    next_is = n ∙ ap (next_of offset) e ∙ record_at_next;
     microseconds_are = ap microseconds_of e ∙ record_at_microseconds;
     start_is = ap start_of e ∙ record_at_start;
     length_is = ap length_of e ∙ record_at_length;
     part_is = ap (part_of script) e ∙ record_at_part;
   }
+
+  -- the next offset that is answered is that of what was read
+  pub next_answered : {r : AtOffset} → Answered script offset r → r.next ≡ next_of offset r.read
+  next_answered a = a.next_is ∙ sym record_at_next ∙ ap (next_of offset) (sym a.answer_is)
+
+  -- a refusal's whole answer
+  pub refused_here : {refusal : Refusal} → record_at script offset ≡ Err refusal → at_offset script offset ≡ record { read = Err refusal; next = offset }
+  refused_here e = ap₂ (λ (read : Read) (next : ℕ). record { read = read; next = next }) e (sym record_at_next ∙ ap (next_of offset) e)
+
+  -- "the given offset", of a refusal and of "end"
+  abbrev pub GivenBack : Read → ℕ → Type 0
+  GivenBack (Ok (Some (Frame start n next))) at = Unit {0}
+  GivenBack (Ok (Some (Wait microseconds next))) at = Unit {0}
+  GivenBack (Ok None) at = at ≡ offset
+  GivenBack (Err refusal) at = at ≡ offset
+
+  pub offset_given_back : {r : AtOffset} → Answered script offset r → GivenBack r.read r.next
+  offset_given_back {r} a = let next = next_answered a in rw next (of_read r.read)
+    where
+      of_read : (read : Read) → GivenBack read (next_of offset read)
+      of_read (Ok (Some (Frame start n next))) = tt
+      of_read (Ok (Some (Wait microseconds next))) = tt
+      of_read (Ok None) = refl
+      of_read (Err refusal) = refl
 
   pub frame_part_is_frame : {bytes rest : List ℕ} → length script ≤ longest_script → front (drop offset script) ≡ item (frame bytes) rest
       → frame_part script offset ≡ bytes

@@ -95,6 +95,23 @@ read_exactly read ns once s h = let here : 0 + s ≡ s = omega arith in read_fro
 
 -- ---- a read scene past the names
 
+module _ (read : ℕ → Bool) (scene : ℕ) where
+  -- a search at its turn: the scene is read, or it is not, or there is none left
+  pub past_found : scene < 4096 → read scene ≡ true → is_past read scene ≡ true
+  unfolding any_read
+  past_found h e = let more : 4096 - scene ≡ suc (4095 - scene) = omega arith in rw (more, e) refl
+
+  pub past_turn : scene < 4096 → read scene ≡ false → is_past read scene ≡ is_past read (scene + 1)
+  unfolding any_read
+  past_turn h e =
+      let more : 4096 - scene ≡ suc (4095 - scene) = omega arith in
+      let rest : 4096 - suc scene ≡ 4095 - scene = omega arith in
+      rw (add-one scene, more, e, rest) refl
+
+  pub past_end : 4096 ≤ scene → is_past read scene ≡ false
+  unfolding any_read
+  past_end h = let none : 4096 - scene ≡ 0 = omega arith in rw none refl
+
 -- as a search among the scenes behind the names
 any_listed : (read : ℕ → Bool) (scene n : ℕ) → any_read read scene n ≡ list_any read (range_with_len scene n)
 unfolding any_read

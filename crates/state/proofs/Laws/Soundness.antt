@@ -1,13 +1,13 @@
 -- The test `is_sound` says exactly `Sound`.
 -- Assumes nothing.
-use mathlib.Core.Path.{◌≡◌, sym, ◌∙◌}
+use mathlib.Core.Path.{◌≡◌, refl, sym, ap, ◌∙◌}
 use mathlib.Core.Bool.{true, false, ◌&&◌, ◌||◌, not, false≢true}
 use Prim.Native.Nat.{◌%◌, ◌≤◌, ◌<◌}
 use native.Mathlib.Omega.{arith}
 use lib.Dec.{leb, ltb, eqb}
-use borrow.Author.Tests.{leb-true, ltb-true, eqb-true, ltb-false, le-leb, lt-ltb, le-ltb, eq-eqb, not-true}
+use borrow.Author.Tests.{leb-true, ltb-true, eqb-true, ltb-false, le-leb, lt-ltb, le-ltb, eq-eqb, not-true, not-false}
 use Rattle.common.specs.Lists.{Each}
-use Rattle.common.proofs.Laws.Booleans.{and_l, and_r, and_i, not_i, or_imp, imp_or, implies_elim, implies_i}
+use Rattle.common.proofs.Laws.Booleans.{and_l, and_r, and_i, not_i, or_imp, imp_or, or_none_l, or_none_r, implies_elim, implies_i}
 use Rattle.common.proofs.Laws.Choice.{cases}
 use Rattle.common.proofs.Laws.Pairs.{◌▹◌}
 use Rattle.chip.specs.Chip.{is_known}
@@ -17,7 +17,7 @@ use Rattle.state.specs.State.{data_of}
 use Rattle.state.specs.Protection.{first_protected}
 use Rattle.state.specs.Status.{writable_bits}
 use Rattle.state.specs.Soundness.{all_of, is_busy, register_clauses, aai_clauses, pending_clauses, is_sound, Busy, Running, Writing, Sound}
-use Rattle.state.proofs.Laws.Clauses.{Holds, each, all_each}
+use Rattle.state.proofs.Laws.Clauses.{Holds, each, all_each, fails_at, denied}
 
 -- ---- from the test to the words
 
@@ -73,7 +73,7 @@ sound_of s e =
 
 -- ---- and back
 
-of_running : (s : State) → (s.aai ≡ true → Running s) → (s.aai ≡ false → s.next ≡ 0) → Each Holds (aai_clauses s)
+pub of_running : (s : State) → (s.aai ≡ true → Running s) → (s.aai ≡ false → s.next ≡ 0) → Each Holds (aai_clauses s)
 of_running s r z =
     imp_or s.aai (eqb s.next 0) (λ a. eq-eqb s.next 0 (z a))
     ▹ implies_i s.aai s.wel (λ a. (r a).enabled)
@@ -86,7 +86,7 @@ of_running s r z =
     (λ b. lt-ltb s.next (first_protected s) ((r a).next_lt_first (let h = ltb-false 0 s.left b in omega arith))))
     ▹ tt
 
-of_writing : (s : State) → (s.pending ≡ true → Writing s) → (s.pending ≡ false → s.pending_bits ≡ 0) → s.pending_bits ≡ writable_bits s.pending_bits
+pub of_writing : (s : State) → (s.pending ≡ true → Writing s) → (s.pending ≡ false → s.pending_bits ≡ 0) → s.pending_bits ≡ writable_bits s.pending_bits
     → Each Holds (pending_clauses s)
 of_writing s w z b =
     implies_i s.pending (is_busy s) (λ p. lt-ltb 0 s.left (w p).busy)
@@ -96,7 +96,7 @@ of_writing s w z b =
     ▹ tt
 
 -- the registers' clauses
-of_registers : (s : State) → is_known s.chip ≡ true → s.bp ≤ 7 → s.left ≤ (data_of s).chip_time
+pub of_registers : (s : State) → is_known s.chip ≡ true → s.bp ≤ 7 → s.left ≤ (data_of s).chip_time
     → (0 < s.left → Busy s)
     → (s.armed ≡ true → s.power_down ≡ false)
     → ((data_of s).ewsr ≡ false → s.armed ≡ true → s.wel ≡ true)
@@ -140,3 +140,22 @@ module _ (s : State) (h : Sound s) where
   pub aai_not_pending : s.aai ≡ true → s.pending ≡ false
   aai_not_pending a =
       cases s.pending (λ p. absurd (false≢true (sym ((regular s.chip).timed (h.while_pending p).takes_time).no_aai ∙ h.aai_had a))) (λ o. o)
+
+-- ---- the code's test of "and then WEL is 1 and neither armed nor power-down holds"
+
+pub busy_holds : (s : State) → (not s.wel || s.armed) || s.power_down ≡ false → Busy s
+busy_holds s e =
+    let two = or_none_l (not s.wel || s.armed) s.power_down e in
+    record {
+      enabled = not-false s.wel (or_none_l (not s.wel) s.armed two);
+      disarmed = or_none_r (not s.wel) s.armed two;
+      awake = or_none_r (not s.wel || s.armed) s.power_down e;
+    }
+
+pub busy_fails : (s : State) → 0 < s.left → (not s.wel || s.armed) || s.power_down ≡ true → false ≡ all_of (register_clauses s)
+busy_fails s h e =
+    cases s.wel
+    (λ w. cases s.armed
+    (λ a. fails_at 4 (register_clauses s) (denied (busy_true s h) (rw a refl)))
+    (λ a. fails_at 5 (register_clauses s) (denied (busy_true s h) (ap not (or_imp (not s.wel || s.armed) s.power_down e (rw (w, a) refl))))))
+    (λ w. fails_at 3 (register_clauses s) (denied (busy_true s h) w))

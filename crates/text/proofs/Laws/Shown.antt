@@ -3,10 +3,12 @@
 use mathlib.Core.Path.{◌≡◌, refl}
 use mathlib.Core.List.{List, [], ◌∷◌, ◌++◌}
 use mathlib.Core.Logic.{◌⊎◌, inl, inr}
-use Prim.Native.Nat.{ℕ, suc, ◌+◌, ◌*◌, ◌≤◌}
+use Prim.Native.Nat.{ℕ, suc, ◌+◌, ◌*◌, ◌≤◌, ◌<◌}
+use native.Mathlib.Numerals.{add-one}
 use native.Mathlib.Omega.{arith}
 use lib.Dec.{eqb}
-use lib.ListN.{length, replicate, length-append}
+use lib.ListN.{length, get_or, drop, replicate, length-append}
+use lib.Seq.{drop-cons}
 use Rattle.common.proofs.Laws.Choice.{cond_elim}
 use Rattle.text.specs.Text.{hex, shown_pair, shown_hex}
 use Rattle.text.proofs.Laws.Text.{hex_none, hex_first}
@@ -26,6 +28,13 @@ shown_untold byte bytes = refl
 pub shown_first : (byte d : ℕ) (bytes driven : List ℕ) → shown_hex (byte ∷ bytes) (d ∷ driven) ≡ shown_pair byte d ++ shown_hex bytes driven
 unfolding shown_hex
 shown_first byte d bytes driven = refl
+
+-- from an index on
+pub shown_drop : (bytes driven : List ℕ) (i : ℕ) → length driven ≡ length bytes → i < length bytes
+    → shown_hex (drop i bytes) (drop i driven) ≡ shown_pair (get_or bytes i 0) (get_or driven i 0) ++ shown_hex (drop (i + 1) bytes) (drop (i + 1) driven)
+shown_drop bytes driven i same h =
+    rw (add-one i, drop-cons bytes i 0 h, drop-cons driven i 0 (omega (arith, same, h)))
+    (shown_first (get_or bytes i 0) (get_or driven i 0) (drop (suc i) bytes) (drop (suc i) driven))
 
 -- where either has ended, nothing is left
 pub shown_ended : (bytes driven : List ℕ) → (bytes ≡ []) ⊎ (driven ≡ []) → shown_hex bytes driven ≡ []

@@ -39,7 +39,13 @@ module _ (front told : List ℕ) {at : ℕ} {text : List ℕ} (room : at + lengt
   rest_room : begun + length (told ++ (line_feed ∷ [])) ≤ length opened
   rest_room = second_room front (told ++ (line_feed ∷ [])) room p
 
+  pub told_room : begun + length told ≤ length opened
+  told_room = first_room told (line_feed ∷ []) begun opened rest_room
+
   module _ {filled : List ℕ} {end : ℕ} (q : Put begun told opened filled end) where
+    pub feed_room : end + 1 ≤ length filled
+    feed_room = second_room told (line_feed ∷ []) rest_room q
+
     pub line_put : {after : List ℕ} {next : ℕ} → Put end (line_feed ∷ []) filled after next → Put at (front ++ (told ++ (line_feed ∷ []))) text after next
     line_put r = both_put front (told ++ (line_feed ∷ [])) room p (both_put told (line_feed ∷ []) rest_room q r)
 

@@ -2,7 +2,6 @@
 use mathlib.Core.Path.{sym, ap, ◌∙◌}
 use native.Mathlib.Omega.{arith}
 use Rattle.names.specs.Search.{same_bytes}
-use Rattle.names.proofs.Laws.Search.{same_pointwise}
 use Rattle.names.proofs.Laws.Sought.{sought_start, sought_step, sought_found, sought_turn, sought_end}
 use Rattle.names.proofs.search.find.Goals as goal
 
@@ -19,10 +18,10 @@ slice_bounds-other-end c =
     let step = sought_step _ c.args.name.now _ c.loop-size.invariant c.in-Some.size (sym c.in-Some.is ∙ c.record_at.ensures) in
     omega (arith, step.fits)
 
-pub returns-then-eq : goal.returns-then-eq
-returns-then-eq c =
+pub returns-then-same : goal.returns-then-same
+returns-then-same c =
     let step = sought_step _ c.args.name.now _ c.loop-size.invariant c.in-Some.size (sym c.in-Some.is ∙ c.record_at.ensures) in
-    sought_found _ _ _ c.loop-size.invariant _ step (sym c.if-eq.true ∙ c.eq.ensures ∙ same_pointwise _ _ ∙ ap (same_bytes _) step.name_is)
+    sought_found _ _ _ c.loop-size.invariant _ step (sym c.if-same.true ∙ c.same.ensures ∙ ap (same_bytes _) step.name_is)
 
 pub loop-size-smaller : goal.loop-size-smaller
 loop-size-smaller c =
@@ -32,7 +31,7 @@ loop-size-smaller c =
 pub loop-size-preserved : goal.loop-size-preserved
 loop-size-preserved c =
     let step = sought_step _ c.args.name.now _ c.loop-size.invariant c.in-Some.size (sym c.in-Some.is ∙ c.record_at.ensures) in
-    sought_turn _ _ _ c.loop-size.invariant _ step (sym c.if-eq.false ∙ c.eq.ensures ∙ same_pointwise _ _ ∙ ap (same_bytes _) step.name_is)
+    sought_turn _ _ _ c.loop-size.invariant _ step (sym c.if-same.false ∙ c.same.ensures ∙ ap (same_bytes _) step.name_is)
 
 pub returns : goal.returns
 returns c = sought_end _ _ _ c.loop-size.invariant (sym c.in_default.is ∙ c.record_at.ensures)

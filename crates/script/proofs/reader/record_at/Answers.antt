@@ -1,20 +1,6 @@
--- `script::reader::record_at` meets its contract: its two tests are those of `record_at`.
-use mathlib.Core.Path.{sym, ◌∙◌}
-use Rattle.script.proofs.Laws.Reader.{record_at_long, record_at_past, record_at_inside}
+-- `script::reader::record_at` meets its contract: what was read, and the next offset of it.
 use Rattle.script.proofs.Laws.Values.{record_at_answered}
 use Rattle.script.proofs.reader.record_at.Goals as goal
 
-pub returns-then-script-gt-LONGEST_SCRIPT : goal.returns-then-script-gt-LONGEST_SCRIPT
-returns-then-script-gt-LONGEST_SCRIPT c =
-    let a = c.args in record_at_answered _ _ (sym (record_at_long a.script.now a.offset c.if-script-gt-LONGEST_SCRIPT.true))
-
-pub returns-then-script-offset : goal.returns-then-script-offset
-returns-then-script-offset c =
-    let a = c.args in
-    record_at_answered _ _ (sym (record_at_past a.script.now a.offset c.if-script-gt-LONGEST_SCRIPT.false c.if-script-offset.true))
-
 pub returns : goal.returns
-returns c =
-    let a = c.args in
-    record_at_answered _ _
-    (c.front_at.ensures ∙ sym (record_at_inside a.script.now a.offset c.if-script-gt-LONGEST_SCRIPT.false c.if-script-offset.false))
+returns c = record_at_answered _ _ c.read_in_order-read.ensures c.next_of.ensures

@@ -2,7 +2,7 @@
 use mathlib.Core.Path.{sym, ◌∙◌}
 use Rattle.namelist.proofs.Laws.Reading.{reading_start, reading_full, reading_cut, reading_bad, reading_turn, reading_end}
 use Rattle.namelist.proofs.list.NameList.read.Goals as goal
-use Rattle.namelist.proofs.list.NameList.read.Goals.{then-names-eq-MOST_NAMES-via-then-names-eq-MOST_NAMES, then-names-eq-MOST_NAMES-via-else-names-eq-MOST_NAMES+then-not-is_name}
+use Rattle.namelist.proofs.list.NameList.read.Goals.{then-is_full-via-then-is_full, then-is_full-via-else-is_full+then-not-is_name}
 
 pub loop-length-init : goal.loop-length-init
 loop-length-init c = reading_start c.args.list.now
@@ -12,19 +12,19 @@ returns-in_err-name c =
     rw c.from_residual.ensures
     (reading_cut _ _ _ c.loop-length.invariant _ _ _ c.in-Some.ensures.cases.0 c.from.ensures c.in_err-name.ensures.cases)
 
-pub returns-then-names-eq-MOST_NAMES : goal.returns-then-names-eq-MOST_NAMES
-returns-then-names-eq-MOST_NAMES c =
+pub returns-then-is_full : goal.returns-then-is_full
+returns-then-is_full c =
     let inv = c.loop-length.invariant in
     let name = c.in_ok-name.ensures.cases in
-    elim c.then-names-eq-MOST_NAMES.branch [
-      | then-names-eq-MOST_NAMES-via-then-names-eq-MOST_NAMES w ↦ reading_full _ _ _ inv _ _ _ c.in-Some.ensures.cases.0 c.from.ensures w.if-names-eq-MOST_NAMES.true
-      | then-names-eq-MOST_NAMES-via-else-names-eq-MOST_NAMES+then-not-is_name w ↦ reading_bad _ _ _ inv _ _ _ c.in-Some.ensures.cases.0 c.from.ensures name.0 _ name.1 (sym w.is_name.ensures ∙ w.if-not-is_name.true)
+    elim c.then-is_full.branch [
+      | then-is_full-via-then-is_full w ↦ reading_full _ _ _ inv _ _ _ c.in-Some.ensures.cases.0 c.from.ensures w.if-is_full.true
+      | then-is_full-via-else-is_full+then-not-is_name w ↦ reading_bad _ _ _ inv _ _ _ c.in-Some.ensures.cases.0 c.from.ensures name.0 _ name.1 (sym w.is_name.ensures ∙ w.if-not-is_name.true)
     ]
 
 pub loop-length-preserved : goal.loop-length-preserved
 loop-length-preserved c =
     let name = c.in_ok-name.ensures.cases in
-    reading_turn _ _ _ c.loop-length.invariant _ _ _ c.in-Some.ensures.cases.0 c.from.ensures name.0 _ name.1 c.if-names-eq-MOST_NAMES.false
+    reading_turn _ _ _ c.loop-length.invariant _ _ _ c.in-Some.ensures.cases.0 c.from.ensures name.0 _ name.1 c.if-is_full.false
     (sym c.is_name.ensures ∙ c.if-not-is_name.false) _ name.2
 
 pub invariant_of-result : goal.invariant_of-result
