@@ -37,8 +37,9 @@ pub fn is_name(bytes: &[u8]) -> bool
     (1..=LONGEST_NAME).contains(&bytes.len()) && all_name(bytes)
 }
 
-// Whether two names are the same, byte for byte. A list is searched by this, and most of its names differ in their first bytes. There `==` would cost
-// a call: of names below four bytes, and of longer ones behind the fourth. So the shortest are asked byte by byte, and of the longer ones eight first.
+// Whether two names are the same, byte for byte. A list is searched by this, and most of its names differ in their first bytes. There `==` costs more:
+// below four bytes it has two tests round its loop, and where the first four agree it is a call. So the shortest are asked byte by byte, and of longer
+// ones eight first.
 #[inline(always)]
 pub fn same(bytes: &[u8], others: &[u8]) -> bool
     ensures { result ≡ same_bytes bytes.now others.now }

@@ -50,6 +50,7 @@ pub record ReaderRules (script : List ℕ) (offset : ℕ) : Type 0 where
   pub end_only_there : record_at script offset ≡ Ok None → offset ≡ length script
   -- the next offset stands beside what was read, and is that of it
   pub next_answered : {r : AtOffset} → Answered script offset r → r.next ≡ next_of offset r.read
+  pub next_answered_for_c : {r : host.Record} → ReadAnswered script offset r → r.next ≡ next_of offset (record_at script offset)
   -- "The reader gives a frame back as that part of the caller's script."
   pub frame_given : (high low : ℕ) (f rest : List ℕ) → length script ≤ 32768 → drop offset script ≡ 0x5a ∷ 0x46 ∷ high ∷ low ∷ (f ++ rest)
       → length f ≡ high * 256 + low → Writable (frame f) → frame_part script offset ≡ f

@@ -88,6 +88,7 @@ module _ (script : List ℕ) (offset : ℕ) where
         ⊎_elim (λ past. absurd (no_end_past e past))
         (λ inside. omega (arith, ap length (decoded_none (drop offset script) told.decoded), length-drop offset script)) (split (length script) offset);
     next_answered = next_answered script offset;
+    next_answered_for_c = λ a. a.next_is ∙ sym (record_at_next script offset);
     frame_given = λ high low f rest short e n ok. frame_part_is_frame script offset short (ap front e ∙ frame_here high low f rest n ok.0 ok.1);
     as_that_part = λ e. sym (record_at_part script offset) ∙ ap (part_of script) e;
     refusal_part = λ e. sym (record_at_part script offset) ∙ ap (part_of script) e;
