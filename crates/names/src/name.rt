@@ -44,7 +44,8 @@ pub fn is_name(bytes: &[u8]) -> bool
 pub fn same(bytes: &[u8], others: &[u8]) -> bool
     ensures { result ≡ same_bytes bytes.now others.now }
 {
-    if bytes.len() != others.len() {
+    let lengths_differ = bytes.len() != others.len();
+    if lengths_differ {
         return false;
     }
     if bytes.len() < 4 {

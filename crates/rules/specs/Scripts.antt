@@ -48,7 +48,7 @@ pub record ReaderRules (script : List ℕ) (offset : ℕ) : Type 0 where
   -- or "end" where the offset is the script's length."
   pub end_answered : length script ≤ 32768 → offset ≡ length script → record_at script offset ≡ Ok None
   pub end_only_there : record_at script offset ≡ Ok None → offset ≡ length script
-  -- the next offset stands beside what was read, and is that of it
+  -- "with the next offset": it stands beside what was read, and C gets the same
   pub next_answered : {r : AtOffset} → Answered script offset r → r.next ≡ next_of offset r.read
   pub next_answered_for_c : {r : host.Record} → ReadAnswered script offset r → r.next ≡ next_of offset (record_at script offset)
   -- "The reader gives a frame back as that part of the caller's script."

@@ -9,6 +9,7 @@ use lib.Dec.{eqb}
 use lib.ListN.{length, get_or, take}
 use lib.Pointwise.{pointwise}
 use Rattle.std.specs.List.{list_all, zip}
+use Rattle.std.proofs.lemmas.List.{length-take, take_min}
 use borrow.Author.Tests.{eq-eqb, eqb-true}
 use Rattle.common.specs.Refusals.{Exactly}
 use Rattle.common.proofs.Laws.Booleans.{and_l, and_r, and_i, or_imp, or_true}
@@ -56,16 +57,11 @@ differ_exactly xs ys = record {
   only_when = λ h. cases (same_bytes xs ys) (λ t. absurd (h (same_equal xs ys t))) (λ f. f);
 }
 
-take_taken : (n : ℕ) (xs : List ℕ) → take (length (take n xs)) xs ≡ take n xs
-take_taken zero xs = refl
-take_taken (suc n) [] = refl
-take_taken (suc n) (x ∷ xs) = ap (λ (l : List ℕ). x ∷ l) (take_taken n xs)
-
 -- and where their fronts do
 pub differ_front : (n : ℕ) (xs ys : List ℕ) → pointwise eqb (take n xs) (take (length (take n xs)) ys) ≡ false → false ≡ same_bytes xs ys
 differ_front n xs ys f =
     sym ((differ_exactly xs ys).only_when
-    (λ e. true≢false (sym (ap (pointwise eqb (take n xs)) (ap (take (length (take n xs))) (sym e) ∙ take_taken n xs) ∙ same_pointwise (take n xs) (take n xs) ∙ same_refl (take n xs)) ∙ f)))
+    (λ e. true≢false (sym (ap (pointwise eqb (take n xs)) (ap (take (length (take n xs))) (sym e) ∙ rw (length-take n xs) (take_min n xs)) ∙ same_pointwise (take n xs) (take n xs) ∙ same_refl (take n xs)) ∙ f)))
 
 pub same_sym : (xs ys : List ℕ) → same_bytes xs ys ≡ same_bytes ys xs
 same_sym xs ys =
